@@ -1,0 +1,12 @@
+pub mod Choices
+pub mod Walking
+pub mod Tables
+pub mod Searching
+pub mod Finite
+pub mod Write
+pub mod Word
+pub mod Read
+pub mod Narrowing
+pub mod Rooting
+pub mod Cases
+pub mod Believe

@@ -1,0 +1,147 @@
+-- One more term of a sum, one more turn of a row of steps, one more test: the laws by which a loop meets a walk. Assumes nothing.
+use mathlib.Core.Path.{_≡_, refl, ap, ap₂, sym, _∙_}
+use mathlib.Core.Bool.{Bool, true, false, cond, _&&_, _||_, or-true}
+use mathlib.Core.Logic.{⊎-elim}
+use Prim.Native.Nat.{ℕ, zero, suc, _+_, _-_, _<_, _≤_}
+use native.Mathlib.Numerals.{add-one}
+use native.Mathlib.Omega.{arith}
+use native.Mathlib.Nat.{zero-add, suc-add, eq-or-lt-of-le, le-of-suc-le-suc}
+use native.Mathlib.Decide.{le-ind}
+use lib.Ieee.{Float, Format, add}
+use Rattle.numbers.specs.declared.Failure.{Failure}
+use Rattle.numbers.specs.declared.Went.{Went}
+use Rattle.numbers.specs.declared.Went.the-variants.{Well, Bad}
+use Rattle.numbers.specs.Walks.{some, every, count, sumOf, Ended, done, stopped, turn, next, each, well, andThen}
+
+pub sum-more : (k : Format) (f : ℕ → Float) (n : ℕ) (s : Float) → s ≡ sumOf k f n → add k s (f n) ≡ sumOf k f (n + 1)
+unfolding sumOf
+sum-more k f n s e = rw (add-one n, e)
+
+-- ---- `some`
+module _ (t : ℕ → Bool) where
+  pub some-none : some t 0 ≡ false
+  unfolding some
+  some-none = refl
+
+  pub some-step : (n : ℕ) → some t (n + 1) ≡ (some t n || t n)
+  unfolding some
+  some-step n = rw add-one
+
+  pub some-more : (n : ℕ) → some t n ≡ false → t n ≡ false → some t (n + 1) ≡ false
+  some-more n e h = some-step n ∙ (rw e h)
+
+  some-there : (n : ℕ) → t n ≡ true → some t (suc n) ≡ true
+  unfolding some
+  some-there n e = rw e (or-true (some t n))
+
+  some-kept : (n : ℕ) → some t n ≡ true → some t (suc n) ≡ true
+  unfolding some
+  some-kept n e = rw e
+
+  pub some-hit : (i n : ℕ) → i < n → t i ≡ true → some t n ≡ true
+  some-hit i n l e = le-ind (λ (m : ℕ). some t m ≡ true) (some-there i e) (λ m _ h. some-kept m h) n l
+
+pub some-ext : (t u : ℕ → Bool) (n : ℕ) → ((k : ℕ) → k < n → t k ≡ u k) → some t n ≡ some u n
+unfolding some
+some-ext t u zero h = refl
+some-ext t u (suc n) h = ap₂ (λ (a b : Bool). a || b) (some-ext t u n (λ k l. h k (omega arith))) (h n (omega arith))
+
+-- ---- `every`
+pub every-more : (t : ℕ → Bool) (n : ℕ) → every t n ≡ true → t n ≡ true → every t (n + 1) ≡ true
+unfolding every
+every-more t n e h = rw (add-one n, e) h
+
+pub every-ext : (t u : ℕ → Bool) (n : ℕ) → ((k : ℕ) → k < n → t k ≡ u k) → every t n ≡ every u n
+unfolding every
+every-ext t u zero h = refl
+every-ext t u (suc n) h = ap₂ (λ (a b : Bool). a && b) (every-ext t u n (λ k l. h k (omega arith))) (h n (omega arith))
+
+-- ---- `count`
+pub count-none : (t : ℕ → Bool) → 0 ≡ count t 0
+unfolding count
+count-none t = refl
+
+pub count-yes : (t : ℕ → Bool) (n k : ℕ) → k ≡ count t n → t n ≡ true → k + 1 ≡ count t (n + 1)
+unfolding count
+count-yes t n k e h = rw (add-one n, add-one k, h, e)
+
+pub count-no : (t : ℕ → Bool) (n k : ℕ) → k ≡ count t n → t n ≡ false → k ≡ count t (n + 1)
+unfolding count
+count-no t n k e h = rw (add-one n, h) e
+
+pub count-ext : (t u : ℕ → Bool) (n : ℕ) → ((k : ℕ) → k < n → t k ≡ u k) → count t n ≡ count u n
+unfolding count
+count-ext t u zero h = refl
+count-ext t u (suc n) h = rw (count-ext t u n (λ k l. h k (omega arith)), h n (omega arith))
+
+count-step-le : (t : ℕ → Bool) (n : ℕ) → count t n ≤ count t (suc n)
+unfolding count
+count-step-le t n = go (t n)
+  where
+    go : (b : Bool) → count t n ≤ cond b (suc (count t n)) (count t n)
+    go true = omega arith
+    go false = omega arith
+
+-- an element that is counted has a number below the count
+pub count-below : (t : ℕ → Bool) (x n : ℕ) → x < n → t x ≡ true → count t x < count t n
+unfolding count
+count-below t x n l e = le-ind (λ (m : ℕ). count t x < count t m) start (λ m _ h. let s : count t m ≤ count t (suc m) = count-step-le t m in omega arith) n l
+  where
+    start : count t x < count t (suc x)
+    start = rw e (omega arith)
+
+pub count-at-most : (t : ℕ → Bool) (n : ℕ) → count t n ≤ n
+unfolding count
+count-at-most t zero = omega arith
+count-at-most t (suc n) = go (t n) (count-at-most t n)
+  where
+    go : (b : Bool) → count t n ≤ n → cond b (suc (count t n)) (count t n) ≤ suc n
+    go true h = omega arith
+    go false h = omega arith
+
+-- ---- `each`
+module _ {S : Type 0} (f : ℕ → S → Went × S) (s₀ : S) where
+  pub each-none : each f 0 s₀ ≡ done s₀
+  unfolding each
+  each-none = refl
+
+  pub each-more : (k : ℕ) {s t : S} → each f k s₀ ≡ done s → f k s ≡ (Well, t) → each f (k + 1) s₀ ≡ done t
+  unfolding each
+  each-more k e h = rw (add-one k, e, h)
+
+  after : (k : ℕ) {why : Failure} {s t : S} → each f k s₀ ≡ done s → f k s ≡ (Bad why, t) → (d : ℕ) → each f (d + suc k) s₀ ≡ stopped k why t
+  unfolding each
+  after k e h zero = rw (zero-add (suc k), e, h)
+  after k e h (suc d) = rw (suc-add d (suc k), after k e h d)
+
+  pub each-stop : (k : ℕ) {why : Failure} {s t : S} (n : ℕ) → each f k s₀ ≡ done s → f k s ≡ (Bad why, t) → k < n → each f n s₀ ≡ stopped k why t
+  each-stop k n e h l = let q : n ≡ (n - suc k) + suc k = omega arith in ap (λ m. each f m s₀) q ∙ after k e h (n - suc k)
+
+  -- at a return: all turns are done; or turn k has not gone well
+  pub each-end : (k : ℕ) {s : S} (n : ℕ) → each f k s₀ ≡ done s → k ≡ n → each f n s₀ ≡ done s
+  each-end k n e q = ap (λ m. each f m s₀) (sym q) ∙ e
+
+  pub each-all : (k : ℕ) {s : S} (n : ℕ) → each f k s₀ ≡ done s → k ≡ n → (Well, s) ≡ well (each f n s₀)
+  each-all k n e q = sym (ap well (each-end k n e q))
+
+  pub each-early : (k : ℕ) {why : Failure} {s t : S} (n : ℕ) → each f k s₀ ≡ done s → f k s ≡ (Bad why, t) → k < n → (Bad why, t) ≡ well (each f n s₀)
+  each-early k n e h l = sym (ap well (each-stop k n e h l))
+
+pub each-ext : {S : Type 0} (f g : ℕ → S → Went × S) (n : ℕ) (s : S) → ((k : ℕ) → k < n → (s : S) → f k s ≡ g k s) → each f n s ≡ each g n s
+unfolding each
+each-ext f g zero s h = refl
+each-ext {S} f g (suc n) s h = rw (each-ext f g n s (λ k l. h k (omega arith))) (go (each g n s))
+  where
+    go : (e : Ended S) → next e n f ≡ next e n g
+    go (done s) = ap (turn n) (h n (omega arith) s)
+    go (stopped k why s) = refl
+
+-- ---- a step, and the next
+module _ {S : Type 0} (x : Went × S) (k : S → Went × S) where
+  pub then-failed : {why : Failure} {s : S} → x ≡ (Bad why, s) → (Bad why, s) ≡ andThen x k
+  unfolding andThen
+  then-failed e = rw e
+
+  pub then-went : {s : S} {y : Went × S} → x ≡ (Well, s) → y ≡ k s → y ≡ andThen x k
+  unfolding andThen
+  then-went e q = rw e q

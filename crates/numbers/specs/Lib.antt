@@ -1,0 +1,5 @@
+pub mod Notation
+pub mod Walks
+pub mod Refusals
+pub mod Numbers
+pub mod Samples
