@@ -3,17 +3,21 @@
 use Prim.Native.Nat.{ℕ, zero, suc}
 use mathlib.Core.Bool.{Bool, true, false}
 use mathlib.Core.List.{List, [], _∷_}
+use Rattle.numbers.specs.declared.Refusal.{Refusal}
 use Rattle.numbers.specs.declared.Verdict.{Verdict}
 use Rattle.numbers.specs.declared.Verdict.the-variants.{Fine, Refused}
+
+abbrev pub refusal : ℕ → ℕ → Refusal
+refusal n p = record { number = n; place = p }
 
 -- what was said, or where nothing was, the next
 abbrev pub orElse : Verdict → Verdict → Verdict
 orElse Fine w = w
-orElse (Refused n p) w = Refused n p
+orElse (Refused r) w = Refused r
 
 -- number n at place p, if the test says that the fault is there
 abbrev pub ask : Bool → ℕ → ℕ → Verdict
-ask true n p = Refused n p
+ask true n p = Refused (refusal n p)
 ask false n p = Fine
 
 -- a fault: its number in the paper, and which places have it

@@ -21,10 +21,16 @@ pub enum Went {
     Bad(Failure),
 }
 
-// What a table of refusals says: nothing, or a row's number and its place.
+// A refusal: document 01's number and place.
+pub struct Refusal {
+    pub number: u32,
+    pub place: usize,
+}
+
+// What a table of refusals says: nothing, or a refusal.
 pub enum Verdict {
     Fine,
-    Refused { number: u32, place: usize },
+    Refused(Refusal),
 }
 
 // What was said, or where nothing was, `number` at `place` if `bad`.
@@ -32,13 +38,10 @@ pub fn asked(v: Verdict, bad: bool, number: u32, place: usize) -> Verdict
     ensures { λ r. ⌜ r ≡ orElse v (ask bad number place) ⌝ }
 {
     match v {
-        Verdict::Refused {
-            number: _,
-            place: _,
-        } => v,
+        Verdict::Refused(_) => v,
         Verdict::Fine => {
             if bad {
-                Verdict::Refused { number, place }
+                Verdict::Refused(Refusal { number, place })
             } else {
                 Verdict::Fine
             }
