@@ -10,9 +10,9 @@ ghost use lib.Ieee.Scale.{finite};
 ghost use Rattle.numbers.specs.Numbers.{rounded, rooted, root};
 ghost use Rattle.numbers.specs.Refusals.{orElse, ask};
 
-// Why a number can't be had.
+// Why numbers can't be had: one is not finite, or lies past the reach of exp.
 pub enum Failure {
-    NotFinite,
+    Numerical,
 }
 
 // What a step says: that it went well, or why it did not.
