@@ -3,7 +3,10 @@ use Prim.Native.Nat.{ℕ, zero, suc}
 use mathlib.Core.Bool.{Bool, true, false, cond, _&&_, _||_}
 use mathlib.Core.List.{List, [], _∷_, _++_}
 use lib.Ieee.{Float, Format, add, ofBits}
+use lib.Ieee.Scale.{finite}
+use Rattle.numbers.specs.Notation.{if-then}
 use Rattle.numbers.specs.declared.Failure.{Failure}
+use Rattle.numbers.specs.declared.Failure.the-variants.{Numerical}
 use Rattle.numbers.specs.declared.Went.{Went}
 use Rattle.numbers.specs.declared.Went.the-variants.{Well, Bad}
 
@@ -64,3 +67,7 @@ only false f s = (Well, s)
 unfoldable pub andThen : {S : Type 0} → Went × S → (S → Went × S) → Went × S
 andThen (Well, s) f = f s
 andThen (Bad why, s) f = (Bad why, s)
+
+-- what a step says whose number must be finite
+unfoldable pub mustBeFinite : Float → Went
+mustBeFinite x = if-then (finite x) Well (Bad Numerical)

@@ -9,6 +9,7 @@ ghost use lib.Ieee.Nearest.{closest};
 ghost use lib.Ieee.Scale.{finite};
 ghost use Rattle.numbers.specs.Numbers.{rounded, rooted, root};
 ghost use Rattle.numbers.specs.Refusals.{orElse, ask};
+ghost use Rattle.numbers.specs.Walks.{mustBeFinite};
 
 // Why numbers can't be had: one is not finite, or lies past the reach of exp.
 pub enum Failure {
@@ -62,6 +63,17 @@ pub fn is_finite32(x: f32) -> bool
 {
     let top = 1.0f32 / 0.0f32;
     if x < top { -top < x } else { false }
+}
+
+// What a step says whose number must be finite.
+pub fn must_be_finite(x: f32) -> Went
+    ensures { λ r. ⌜ r ≡ mustBeFinite x ⌝ }
+{
+    if is_finite32(x) {
+        Went::Well
+    } else {
+        Went::Bad(Failure::Numerical)
+    }
 }
 
 // The i-th of lent numbers, a NaN past their end.
