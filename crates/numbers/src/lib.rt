@@ -161,7 +161,7 @@ pub fn narrow(x: f64) -> f32
 }
 
 // A root in digits: q is the whole part of the root of q * q + rest.
-pub struct Root {
+struct Root {
     pub q: u64,
     pub rest: u64,
 }
@@ -220,7 +220,7 @@ fn root_bits(q: u64, a: u64, w: u64, z: u64) -> u64
 }
 
 // q * 2^a
-pub struct Scaled {
+struct Scaled {
     pub q: u64,
     pub a: u64,
 }
