@@ -10,3 +10,4 @@ pub mod Narrowing
 pub mod Rooting
 pub mod Cases
 pub mod Believe
+pub mod Bounded

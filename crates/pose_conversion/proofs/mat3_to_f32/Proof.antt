@@ -1,0 +1,21 @@
+use Rattle.pose_conversion.specs.Conversions.{matF32}
+use borrow.Author.Needs.{needs}
+use Rattle.pose_conversion.proofs.mat3_to_f32.Statement.{statement}
+use Rattle.pose_conversion.proofs.mat3_to_f32.Tie as tie
+
+vec3-to-f32-requires : tie.Need-vec3-to-f32-requires
+vec3-to-f32-requires c κs = search needs
+
+vec3-to-f32-requires-2 : tie.Need-vec3-to-f32-requires-2
+vec3-to-f32-requires-2 c κs = search needs
+
+vec3-to-f32-requires-3 : tie.Need-vec3-to-f32-requires-3
+vec3-to-f32-requires-3 c κs = search needs
+
+returns : tie.Need-returns
+unfolding matF32
+returns c = cc
+
+pub mat3-to-f32-spec : {M : Type 1} → statement M
+mat3-to-f32-spec =
+    tie.close (tie.spec vec3-to-f32-requires vec3-to-f32-requires-2 vec3-to-f32-requires-3 returns)

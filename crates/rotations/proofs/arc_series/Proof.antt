@@ -1,0 +1,12 @@
+use lib.Ieee.{ofBits}
+use Rattle.numbers.specs.Notation.{ratio}
+use Rattle.rotations.specs.ExpLog.{arcSeries, series}
+use Rattle.rotations.proofs.arc_series.Statement.{statement}
+use Rattle.rotations.proofs.arc_series.Tie as tie
+
+returns : tie.Need-returns
+unfolding arcSeries ratio ofBits series
+returns c = cc
+
+pub arc-series-spec : {M : Type 1} → statement M
+arc-series-spec = tie.close (tie.spec returns)

@@ -1,0 +1,28 @@
+use lib.Ieee.{ofBits}
+use Rattle.numbers.specs.Notation.{ratio}
+use Rattle.numbers.proofs.Choices.{taken, left}
+use borrow.Author.Needs.{needs}
+use Rattle.rotations.specs.ExpLog.{bend}
+use Rattle.rotations.proofs.bend_of.Statement.{statement}
+use Rattle.rotations.proofs.bend_of.Tie as tie
+
+dot-of-requires : tie.Need-dot-of-requires
+dot-of-requires c κs = search needs
+
+small-bend-requires : tie.Need-small-bend-requires
+small-bend-requires c κs = search needs
+
+large-bend-requires : tie.Need-large-bend-requires
+large-bend-requires c κs = search needs
+
+returns : tie.Need-returns
+unfolding bend ratio ofBits
+returns c = taken _ (cc) (cc)
+
+returns-2 : tie.Need-returns-2
+unfolding bend ratio ofBits
+returns-2 c = left _ (cc) (cc)
+
+pub bend-of-spec : {M : Type 1} → statement M
+bend-of-spec =
+    tie.close (tie.spec dot-of-requires small-bend-requires large-bend-requires returns returns-2)

@@ -1,0 +1,30 @@
+use Rattle.rotations.proofs.Steps.{turned-by, turned-too-far}
+use Rattle.rotations.specs.ExpLog.{expOf}
+use borrow.Author.Needs.{needs}
+use Rattle.rotations.proofs.exp.Statement.{statement}
+use Rattle.rotations.proofs.exp.Tie as tie
+
+turn-of-requires : tie.Need-turn-of-requires
+turn-of-requires c κs = search needs
+
+enum-known-q : tie.Need-enum-known-q
+enum-known-q c = search needs
+
+enum-told : tie.Need-enum-told
+enum-told c = search needs
+
+returns : tie.Need-returns
+unfolding expOf
+returns c = turned-too-far _ (cc) (cc)
+
+moved-by-requires : tie.Need-moved-by-requires
+moved-by-requires c κs = search needs
+
+returns-2 : tie.Need-returns-2
+unfolding expOf
+returns-2 c = turned-by _ (c .before .before .q .given .0 .0) (cc) (cc)
+
+pub exp-spec : {M : Type 1} → statement M
+exp-spec =
+    tie.close
+    (tie.spec turn-of-requires enum-known-q enum-told returns moved-by-requires returns-2)

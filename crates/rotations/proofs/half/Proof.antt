@@ -1,0 +1,20 @@
+use borrow.Author.Needs.{needs}
+use Rattle.rotations.specs.ExpLog.{halved}
+use Rattle.rotations.proofs.half.Statement.{statement}
+use Rattle.rotations.proofs.half.Tie as tie
+
+axis-of-requires : tie.Need-axis-of-requires
+axis-of-requires c κs = search needs
+
+dot-of-requires : tie.Need-dot-of-requires
+dot-of-requires c κs = search needs
+
+sqrt64-requires : tie.Need-sqrt64-requires
+sqrt64-requires c κs = search needs
+
+returns : tie.Need-returns
+unfolding halved
+returns c = cc
+
+pub half-spec : {M : Type 1} → statement M
+half-spec = tie.close (tie.spec axis-of-requires dot-of-requires sqrt64-requires returns)

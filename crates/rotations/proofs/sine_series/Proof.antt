@@ -1,0 +1,12 @@
+use lib.Ieee.{ofBits}
+use Rattle.numbers.specs.Notation.{ratio}
+use Rattle.rotations.specs.ExpLog.{sineSeries, series}
+use Rattle.rotations.proofs.sine_series.Statement.{statement}
+use Rattle.rotations.proofs.sine_series.Tie as tie
+
+returns : tie.Need-returns
+unfolding sineSeries ratio ofBits series
+returns c = cc
+
+pub sine-series-spec : {M : Type 1} → statement M
+sine-series-spec = tie.close (tie.spec returns)

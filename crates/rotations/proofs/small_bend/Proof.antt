@@ -1,0 +1,12 @@
+use lib.Ieee.{ofBits}
+use Rattle.numbers.specs.Notation.{ratio}
+use Rattle.rotations.specs.ExpLog.{smallBend, series}
+use Rattle.rotations.proofs.small_bend.Statement.{statement}
+use Rattle.rotations.proofs.small_bend.Tie as tie
+
+returns : tie.Need-returns
+unfolding smallBend ratio ofBits series
+returns c = cc
+
+pub small-bend-spec : {M : Type 1} → statement M
+small-bend-spec = tie.close (tie.spec returns)

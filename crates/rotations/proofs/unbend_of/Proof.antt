@@ -1,0 +1,42 @@
+use lib.Ieee.{ofBits}
+use Rattle.numbers.specs.Notation.{ratio}
+use Rattle.numbers.proofs.Choices.{taken, left}
+use borrow.Author.Needs.{needs}
+use Rattle.rotations.specs.ExpLog.{unbend, series}
+use Rattle.rotations.proofs.unbend_of.Statement.{statement}
+use Rattle.rotations.proofs.unbend_of.Tie as tie
+
+dot-of-requires : tie.Need-dot-of-requires
+dot-of-requires c κs = search needs
+
+returns : tie.Need-returns
+unfolding unbend ratio ofBits series
+returns c = taken _ (cc) (cc)
+
+axis-of-requires : tie.Need-axis-of-requires
+axis-of-requires c κs = search needs
+
+sqrt64-requires : tie.Need-sqrt64-requires
+sqrt64-requires c κs = search needs
+
+dot-of-requires-2 : tie.Need-dot-of-requires-2
+dot-of-requires-2 c κs = search needs
+
+sqrt64-requires-2 : tie.Need-sqrt64-requires-2
+sqrt64-requires-2 c κs = search needs
+
+returns-2 : tie.Need-returns-2
+unfolding unbend ratio ofBits
+returns-2 c = left _ (cc) (cc)
+
+pub unbend-of-spec : {M : Type 1} → statement M
+unbend-of-spec =
+    tie.close
+    (tie.spec
+    dot-of-requires
+    returns
+    axis-of-requires
+    sqrt64-requires
+    dot-of-requires-2
+    sqrt64-requires-2
+    returns-2)

@@ -1,0 +1,17 @@
+use lib.Ieee.{ofBits}
+use Rattle.numbers.specs.Notation.{ratio}
+use Rattle.numbers.proofs.Choices.{taken, left}
+use Rattle.rotations.specs.ExpLog.{upright}
+use Rattle.rotations.proofs.upright_of.Statement.{statement}
+use Rattle.rotations.proofs.upright_of.Tie as tie
+
+returns : tie.Need-returns
+unfolding upright ratio ofBits
+returns c = taken _ (cc) (cc)
+
+returns-2 : tie.Need-returns-2
+unfolding upright ratio ofBits
+returns-2 c = left _ (cc) (cc)
+
+pub upright-of-spec : {M : Type 1} → statement M
+upright-of-spec = tie.close (tie.spec returns returns-2)

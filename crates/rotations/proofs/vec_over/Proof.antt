@@ -1,0 +1,10 @@
+use Rattle.rotations.specs.ExpLog.{over}
+use Rattle.rotations.proofs.vec_over.Statement.{statement}
+use Rattle.rotations.proofs.vec_over.Tie as tie
+
+returns : tie.Need-returns
+unfolding over
+returns c = cc
+
+pub vec-over-spec : {M : Type 1} → statement M
+vec-over-spec = tie.close (tie.spec returns)

@@ -1,0 +1,4 @@
+pub mod Rotation
+pub mod FromMatrix
+pub mod ExpLog
+pub mod Samples
