@@ -1,0 +1,287 @@
+-- The damping's levels. `rung k` is 2 ^ -149 raised k times. A damping at or above rung k is at or above rung k + 1 when raised, and at or above rung k - 1 when lowered.
+-- Rung 55 is above 1e10. What is particular to the numbers is one test that antt computes, `climbs`. Assumes nothing.
+use mathlib.Core.Path.{_≡_, refl, sym, subst}
+use mathlib.Core.Logic.{_⊎_, inl, inr}
+use mathlib.Core.Bool.{Bool, true, false, _&&_}
+use Prim.Native.Nat.{ℕ, zero, suc, _+_, _-_, _*_, _%_, _^_, _≤_, _<_, zero-le, suc-le-suc}
+use native.Mathlib.Nat.{zero-mul, lt-irrefl, zero-lt-suc, not-le-of-lt, eq-or-lt-of-le, le-trans, le-of-eq, mul-right-comm, mul-le-mul-right, mul-le-mul-left, mul-pos, mul-one, one-mul, mul-left-comm}
+use native.Mathlib.Omega.{arith}
+use lib.IntN.{negsuc}
+use lib.Dec.{T, ltb, leb, eqb, leb→le, ltb→lt, lt→ltb}
+use lib.Pow.{pow-pos}
+use lib.Ieee.{Float, nan, inf, fin, binary32, up, down, low, round, mul, div, lt, le, fits}
+use lib.Ieee.Fits.{up-pos, and-l, and-r}
+use lib.Ieee.Order.{round-mono}
+use lib.Ieee.Positive.{num, den, den-pos}
+use Rattle.numbers.specs.Notation.{num as number, ratio, ratio32, if-then}
+use Rattle.decisions.specs.Damping.{factor, least, most, increased, decreased}
+use Rattle.decisions.proofs.Order.{plain, unsigned, le→frac, frac→le, le-through, le-of-not-lt, le-of-lt', plain-below, plain-unsigned, round-unsigned}
+
+unfoldable pub rung : ℕ → Float
+rung zero = fin false 1 (negsuc 148)
+rung (suc k) = increased (rung k)
+
+-- from r up for n rungs: each is plain and no higher than the next one lowered, and the last is above 1e10
+climbs : ℕ → Float → Bool
+climbs zero r = plain r && lt most r
+climbs (suc n) r = plain r && (le r (decreased (increased r)) && climbs n (increased r))
+
+climbs-all : T (climbs 55 (fin false 1 (negsuc 148)))
+unfolding climbs increased decreased if-then mul div lt le ratio ratio32
+climbs-all = tt
+
+-- ---- raising and lowering keep the order
+increased-is : (x : Float) → T (plain x) → increased x ≡ round binary32 false (num x * 10) (den x * 1)
+unfolding increased mul ratio
+increased-is nan p = absurd p
+increased-is (inf s) p = absurd p
+increased-is (fin true m e) p = absurd p
+increased-is (fin false m e) p = refl
+
+tenth-is : (x : Float) → T (plain x) → div binary32 x factor ≡ round binary32 false (num x * 1) (10 * den x)
+unfolding div ratio
+tenth-is nan p = absurd p
+tenth-is (inf s) p = absurd p
+tenth-is (fin true m e) p = absurd p
+tenth-is (fin false m e) p = refl
+
+scaled : (a b c d : ℕ) → a * d ≤ c * b → a * 10 * (d * 1) ≤ c * 10 * (b * 1)
+scaled a b c d h =
+    le-trans (le-of-eq (simp (mul-one, mul-right-comm))) (le-trans (mul-le-mul-right 10 h) (le-of-eq (simp (mul-one, mul-right-comm))))
+
+shrunk : (a b c d : ℕ) → a * d ≤ c * b → a * 1 * (10 * d) ≤ c * 1 * (10 * b)
+shrunk a b c d h =
+    le-trans (le-of-eq (simp (mul-one, mul-left-comm))) (le-trans (mul-le-mul-left 10 h) (le-of-eq (simp (mul-one, mul-left-comm))))
+
+increased-mono : (x y : Float) → T (plain x) → T (plain y) → T (le x y) → T (le (increased x) (increased y))
+increased-mono x y p q h =
+    subst (λ (z : Float). T (le z (increased y))) (sym (increased-is x p))
+    (subst (λ (z : Float). T (le (round binary32 false (num x * 10) (den x * 1)) z)) (sym (increased-is y q))
+    (round-mono binary32 (num x * 10) (den x * 1) (num y * 10) (den y * 1) (mul-pos (den-pos x) (pow-pos 0)) (mul-pos (den-pos y) (pow-pos 0)) (scaled (num x) (den x) (num y) (den y) (le→frac x y p q h))))
+
+tenth-mono : (x y : Float) → T (plain x) → T (plain y) → T (le x y) → T (le (div binary32 x factor) (div binary32 y factor))
+tenth-mono x y p q h =
+    subst (λ (z : Float). T (le z (div binary32 y factor))) (sym (tenth-is x p))
+    (subst (λ (z : Float). T (le (round binary32 false (num x * 1) (10 * den x)) z)) (sym (tenth-is y q))
+    (round-mono binary32 (num x * 1) (10 * den x) (num y * 1) (10 * den y) (mul-pos (ltb→lt 0 10 tt) (den-pos x)) (mul-pos (ltb→lt 0 10 tt) (den-pos y)) (shrunk (num x) (den x) (num y) (den y) (le→frac x y p q h))))
+
+increased-unsigned : (x : Float) → T (plain x) → T (unsigned (increased x))
+increased-unsigned x p = subst (λ (z : Float). T (unsigned z)) (sym (increased-is x p)) (round-unsigned binary32 (num x * 10) (den x * 1))
+
+tenth-unsigned : (x : Float) → T (plain x) → T (unsigned (div binary32 x factor))
+tenth-unsigned x p = subst (λ (z : Float). T (unsigned z)) (sym (tenth-is x p)) (round-unsigned binary32 (num x * 1) (10 * den x))
+
+least-plain : T (plain least)
+unfolding ratio32
+least-plain = tt
+
+most-plain : T (plain most)
+unfolding ratio32
+most-plain = tt
+
+same : (x : Float) → T (plain x) → T (le x x)
+same x p = frac→le x x p p (le-of-eq refl)
+
+-- ---- the larger of a value and 1e-10
+abbrev atLeast : Float → Float
+atLeast q = if-then (lt q least) least q
+
+least-under : (q : Float) → T (unsigned q) → T (le least (atLeast q))
+unfolding if-then
+least-under q p = go (lt q least) refl
+  where
+    go : (b : Bool) → lt q least ≡ b → T (le least (if-then b least q))
+    go true e = same least least-plain
+    go false e = le-of-not-lt least q (plain-unsigned least least-plain) p e
+
+atLeast-unsigned : (q : Float) → T (unsigned q) → T (unsigned (atLeast q))
+unfolding if-then
+atLeast-unsigned q p = go (lt q least)
+  where
+    go : (b : Bool) → T (unsigned (if-then b least q))
+    go true = plain-unsigned least least-plain
+    go false = p
+
+atLeast-mono : (q r : Float) → T (unsigned q) → T (unsigned r) → T (le q r) → T (le (atLeast q) (atLeast r))
+unfolding if-then
+atLeast-mono q r p s h = go (lt q least) (lt r least) refl
+  where
+    go : (b c : Bool) → lt r least ≡ c → T (le (if-then b least q) (if-then c least r))
+    go true true e = same least least-plain
+    go true false e = le-of-not-lt least r (plain-unsigned least least-plain) s e
+    go false true e = le-through q r least p s (plain-unsigned least least-plain) h (le-of-lt' r least (subst T (sym e) tt))
+    go false false e = h
+
+decreased-mono : (x y : Float) → T (plain x) → T (plain y) → T (le x y) → T (le (decreased x) (decreased y))
+unfolding decreased
+decreased-mono x y p q h = atLeast-mono (div binary32 x factor) (div binary32 y factor) (tenth-unsigned x p) (tenth-unsigned y q) (tenth-mono x y p q h)
+
+decreased-unsigned : (x : Float) → T (plain x) → T (unsigned (decreased x))
+unfolding decreased
+decreased-unsigned x p = atLeast-unsigned (div binary32 x factor) (tenth-unsigned x p)
+
+decreased-least : (x : Float) → T (plain x) → T (le least (decreased x))
+unfolding decreased
+decreased-least x p = least-under (div binary32 x factor) (tenth-unsigned x p)
+
+decreased-top : T (le (decreased most) most)
+unfolding decreased if-then div lt le ratio ratio32
+decreased-top = tt
+
+decreased-under : (x : Float) → T (plain x) → T (le x most) → T (le (decreased x) most)
+decreased-under x p h =
+    le-through (decreased x) (decreased most) most (decreased-unsigned x p) (decreased-unsigned most most-plain) (plain-unsigned most most-plain) (decreased-mono x most p most-plain h) decreased-top
+
+decreased-plain : (x : Float) → T (plain x) → T (le x most) → T (plain (decreased x))
+decreased-plain x p h = plain-below (decreased x) most (decreased-unsigned x p) most-plain (decreased-under x p h)
+
+-- ---- the rungs
+step-down : (j k : ℕ) → suc k + j ≡ 55 → k + suc j ≡ 55
+step-down j k e = omega arith
+
+reach : (j k : ℕ) → k + j ≡ 55 → T (climbs j (rung k))
+unfolding rung climbs
+reach j zero e = let h : 55 ≡ j = omega arith in subst (λ (n : ℕ). T (climbs n (fin false 1 (negsuc 148)))) h climbs-all
+reach j (suc k) e =
+    let r = rung k in
+    and-r (le r (decreased (increased r))) (climbs j (increased r)) (and-r (plain r) (le r (decreased (increased r)) && climbs j (increased r)) (reach (suc j) k (step-down j k e)))
+
+plain-at : (j : ℕ) (r : Float) → T (climbs j r) → T (plain r)
+unfolding climbs
+plain-at zero r t = and-l (plain r) (lt most r) t
+plain-at (suc j) r t = and-l (plain r) (le r (decreased (increased r)) && climbs j (increased r)) t
+
+rest : (k n : ℕ) → k ≤ n → k + (n - k) ≡ n
+rest k n h = omega arith
+
+rest-suc : (k : ℕ) → k ≤ 54 → k + suc (54 - k) ≡ 55
+rest-suc k h = omega arith
+
+rung-plain : (k : ℕ) → k ≤ 55 → T (plain (rung k))
+rung-plain k h = plain-at (55 - k) (rung k) (reach (55 - k) k (rest k 55 h))
+
+rung-decreased : (k : ℕ) → k ≤ 54 → T (le (rung k) (decreased (rung (suc k))))
+unfolding rung climbs
+rung-decreased k h =
+    let r = rung k in
+    let j = 54 - k in
+    and-l (le r (decreased (increased r))) (climbs j (increased r)) (and-r (plain r) (le r (decreased (increased r)) && climbs j (increased r)) (reach (suc j) k (rest-suc k h)))
+
+rung-top : T (lt most (rung 55))
+unfolding climbs
+rung-top = and-r (plain (rung 55)) (lt most (rung 55)) (reach 0 55 refl)
+
+clash : (x y : Float) → T (plain x) → T (plain y) → T (lt x y) → T (le y x) → ⊥
+unfolding lt
+clash nan y p q h k = absurd p
+clash (inf s) y p q h k = absurd p
+clash (fin true m e) y p q h k = absurd p
+clash (fin false m e) nan p q h k = absurd q
+clash (fin false m e) (inf t) p q h k = absurd q
+clash (fin false m e) (fin true n d) p q h k = absurd q
+clash (fin false m e) (fin false n d) p q h k =
+    not-le-of-lt (ltb→lt (m * up e * down d) (n * up d * down e) h) (le→frac (fin false n d) (fin false m e) tt tt k)
+
+ground : T (le (rung 0) least)
+unfolding rung le ratio32
+ground = tt
+
+first-up : T (le (rung 0) (rung 1))
+unfolding rung le increased mul ratio
+first-up = tt
+
+-- ---- a damping at a level
+pub record At (k : ℕ) (d : Float) : Type 0 where
+  pub low : k ≤ 54
+  pub is-plain : T (plain d)
+  pub above : T (le (rung k) d)
+  pub under : T (le d most)
+
+-- no damping up to 1e10 is at rung 55
+not-top : (d : Float) → T (plain d) → T (le d most) → T (le (rung 55) d) → ⊥
+not-top d p u h =
+    clash most (rung 55) most-plain (rung-plain 55 (le-of-eq refl)) rung-top
+    (le-through (rung 55) d most (plain-unsigned (rung 55) (rung-plain 55 (le-of-eq refl))) (plain-unsigned d p) (plain-unsigned most most-plain) h u)
+
+-- at or above a rung up to 55, and up to 1e10: at that level
+at-of : (k : ℕ) (d : Float) → k ≤ 55 → T (plain d) → T (le (rung k) d) → T (le d most) → At k d
+at-of k d h p a u = record { low = go (eq-or-lt-of-le h); is-plain = p; above = a; under = u }
+  where
+    go : (k ≡ 55) ⊎ (k < 55) → k ≤ 54
+    go (inl e) = absurd (not-top d p u (subst (λ (n : ℕ). T (le (rung n) d)) e a))
+    go (inr l) = omega arith
+
+-- raised, and still up to 1e10: one level up, and from the ground never below it
+module _ (k : ℕ) (d : Float) (a : At k d) (e : lt most (increased d) ≡ false) where
+  still-under : T (le (increased d) most)
+  still-under = le-of-not-lt (increased d) most (increased-unsigned d (a .is-plain)) (plain-unsigned most most-plain) e
+
+  still-plain : T (plain (increased d))
+  still-plain = plain-below (increased d) most (increased-unsigned d (a .is-plain)) most-plain still-under
+
+  up-one : T (le (rung (suc k)) (increased d))
+  unfolding rung
+  up-one = increased-mono (rung k) d (rung-plain k (le-trans (a .low) (leb→le 54 55 tt))) (a .is-plain) (a .above)
+
+  pub raise-at : At (suc k) (increased d)
+  raise-at = at-of (suc k) (increased d) (suc-le-suc (a .low)) still-plain up-one still-under
+
+pub raise-ground : (d : Float) → At 0 d → lt most (increased d) ≡ false → At 0 (increased d)
+raise-ground d a e =
+    at-of 0 (increased d) zero-le (still-plain 0 d a e)
+    (le-through (rung 0) (rung 1) (increased d) (plain-unsigned (rung 0) (rung-plain 0 zero-le)) (plain-unsigned (rung 1) (rung-plain 1 (leb→le 1 55 tt))) (increased-unsigned d (a .is-plain)) first-up (up-one 0 d a e))
+    (still-under 0 d a e)
+
+-- lowered: one level down, and never below the ground
+pub lower-at : (k : ℕ) (d : Float) → At (suc k) d → At k (decreased d)
+lower-at k d a =
+    let p = a .is-plain in
+    let h : k ≤ 54 = omega (arith, a .low) in
+    let q : T (plain (rung (suc k))) = rung-plain (suc k) (suc-le-suc h) in
+    record {
+      low = h;
+      is-plain = decreased-plain d p (a .under);
+      above =
+          le-through (rung k) (decreased (rung (suc k))) (decreased d) (plain-unsigned (rung k) (rung-plain k (le-trans h (leb→le 54 55 tt)))) (decreased-unsigned (rung (suc k)) q) (decreased-unsigned d p) (rung-decreased k h)
+          (decreased-mono (rung (suc k)) d q p (a .above));
+      under = decreased-under d p (a .under);
+    }
+
+pub lower-ground : (k : ℕ) (d : Float) → At k d → At 0 (decreased d)
+lower-ground k d a =
+    let p = a .is-plain in
+    record {
+      low = zero-le;
+      is-plain = decreased-plain d p (a .under);
+      above = le-through (rung 0) least (decreased d) (plain-unsigned (rung 0) (rung-plain 0 zero-le)) (plain-unsigned least least-plain) (decreased-unsigned d p) ground (decreased-least d p);
+      under = decreased-under d p (a .under);
+    }
+
+-- ---- the first damping: an f32 above 0 and up to 1e10 is at rung 0 or above
+wide : (m u d : ℕ) → 0 < u → d ≤ 2 ^ 149 → 1 * d ≤ suc m * u * 2 ^ 149
+wide m u d U h =
+    le-trans (le-of-eq (one-mul d))
+    (le-trans h
+    (le-trans (le-of-eq (sym (one-mul (2 ^ 149)))) (mul-le-mul-right (2 ^ 149) (mul-pos (ltb→lt 0 (suc m) (leb·one m)) U))))
+  where
+    leb·one : (n : ℕ) → T (ltb 0 (suc n))
+    leb·one n = lt→ltb 0 (suc n) (zero-lt-suc n)
+
+pub first-at : (d : Float) → T (fits binary32 d) → T (lt (number 0) d) → T (le d most) → At 0 d
+unfolding fits lt le ratio ratio32 rung
+first-at nan f p u = absurd p
+first-at (inf true) f p u = absurd p
+first-at (inf false) f p u = absurd u
+first-at (fin true m e) f p u = absurd p
+first-at (fin false zero e) f p u = absurd (lt-irrefl 0 (simp zero-mul at (ltb→lt (0 * down e) (0 * up e * 1) p)))
+first-at (fin false (suc m) e) f p u =
+    let a : Bool = eqb (suc m % 2) 1 in
+    let b : Bool = ltb (suc m) (2 ^ 24) in
+    let c : Bool = leb (down e) (2 ^ 149) in
+    let g : Bool = ltb (suc m * up e) (2 ^ 128 * down e) in
+    record {
+      low = zero-le;
+      is-plain = tt;
+      above = frac→le (rung 0) (fin false (suc m) e) tt tt (wide m (up e) (down e) (up-pos e) (leb→le (down e) (2 ^ 149) (and-r (a && b) c (and-l (a && b && c) g f))));
+      under = u;
+    }

@@ -1,0 +1,5 @@
+pub mod Damping
+pub mod Run
+pub mod Driven
+pub mod Machine
+pub mod Demand

@@ -1,0 +1,5 @@
+pub mod General
+pub mod Reading
+pub mod Marks
+pub mod Answers
+pub mod Passed

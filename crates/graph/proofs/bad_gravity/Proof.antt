@@ -1,0 +1,53 @@
+use lib.Ieee.{ofBits}
+use Rattle.numbers.specs.Notation.{ratio}
+use Rattle.graph.specs.Table.{badGravity}
+use borrow.Author.Needs.{needs}
+use Rattle.graph.proofs.bad_gravity.Statement.{statement}
+use Rattle.graph.proofs.bad_gravity.Tie as tie
+
+enum-known-m : tie.Need-enum-known-m
+enum-known-m c = search needs
+
+enum-told : tie.Need-enum-told
+enum-told c = search needs
+
+returns : tie.Need-returns
+unfolding badGravity
+returns c = rw (c .enum-told .given .1)
+
+dot-of-requires : tie.Need-dot-of-requires
+dot-of-requires c κs = search needs
+
+sqrt64-requires : tie.Need-sqrt64-requires
+sqrt64-requires c κs = search needs
+
+is-finite64-requires : tie.Need-is-finite64-requires
+is-finite64-requires c κs = search needs
+
+is-finite64-requires-2 : tie.Need-is-finite64-requires-2
+is-finite64-requires-2 c κs = search needs
+
+is-finite64-requires-3 : tie.Need-is-finite64-requires-3
+is-finite64-requires-3 c κs = search needs
+
+is-finite64-requires-4 : tie.Need-is-finite64-requires-4
+is-finite64-requires-4 c κs = search needs
+
+returns-2 : tie.Need-returns-2
+unfolding badGravity ratio ofBits
+returns-2 c = rw (c .before .before .before .before .before .before .before .m .given .1) (cc)
+
+pub bad-gravity-spec : {M : Type 1} → statement M
+bad-gravity-spec =
+    tie.close
+    (tie.spec
+    enum-known-m
+    enum-told
+    returns
+    dot-of-requires
+    sqrt64-requires
+    is-finite64-requires
+    is-finite64-requires-2
+    is-finite64-requires-3
+    is-finite64-requires-4
+    returns-2)

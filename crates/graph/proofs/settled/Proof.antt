@@ -1,0 +1,18 @@
+use borrow.Author.Needs.{needs}
+use Rattle.graph.proofs.settled.Statement.{statement}
+use Rattle.graph.proofs.settled.Tie as tie
+
+enum-told : tie.Need-enum-told
+enum-told c = search needs
+
+enum-known-v : tie.Need-enum-known-v
+enum-known-v c = search needs
+
+returns : tie.Need-returns
+returns c = cc
+
+returns-2 : tie.Need-returns-2
+returns-2 c = cc
+
+pub settled-spec : {M : Type 1} → statement M
+settled-spec = tie.close (tie.spec enum-told enum-known-v returns returns-2)

@@ -1,0 +1,32 @@
+use borrow.Author.Needs.{needs}
+use Rattle.graph.proofs.validate_settings.Statement.{statement}
+use Rattle.graph.proofs.validate_settings.Tie as tie
+
+row-15-requires : tie.Need-row-15-requires
+row-15-requires c κs = search needs
+
+row-16-requires : tie.Need-row-16-requires
+row-16-requires c κs = search needs
+
+row-17-requires : tie.Need-row-17-requires
+row-17-requires c κs = search needs
+
+row-18-requires : tie.Need-row-18-requires
+row-18-requires c κs = search needs
+
+row-19-requires : tie.Need-row-19-requires
+row-19-requires c κs = search needs
+
+returns : tie.Need-returns
+returns c = cc
+
+pub validate-settings-spec : {M : Type 1} → statement M
+validate-settings-spec =
+    tie.close
+    (tie.spec
+    row-15-requires
+    row-16-requires
+    row-17-requires
+    row-18-requires
+    row-19-requires
+    returns)

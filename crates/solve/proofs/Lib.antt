@@ -1,0 +1,14 @@
+pub mod Tests
+pub mod Own
+pub mod RootServes
+pub mod Zeros
+pub mod Index
+pub mod Sums
+pub mod Lower
+pub mod Places
+pub mod Firsts
+pub mod Rows
+pub mod Steps
+pub mod Followed
+pub mod Close
+pub mod Again
