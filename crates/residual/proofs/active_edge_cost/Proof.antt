@@ -1,0 +1,57 @@
+use Rattle.residual.proofs.Costing.{passed-over, counted}
+use borrow.Author.Needs.{needs}
+use Rattle.residual.proofs.active_edge_cost.Statement.{statement}
+use Rattle.residual.proofs.active_edge_cost.Tie as tie
+
+mul-index-at : tie.Need-mul-index-at
+mul-index-at c = search needs
+
+index-at-requires : tie.Need-index-at-requires
+index-at-requires c κs = search needs
+
+mul-index-at-2 : tie.Need-mul-index-at-2
+mul-index-at-2 c = search needs
+
+add-index-at : tie.Need-add-index-at
+add-index-at c = search needs
+
+index-at-requires-2 : tie.Need-index-at-requires-2
+index-at-requires-2 c κs = search needs
+
+slot-at-requires : tie.Need-slot-at-requires
+slot-at-requires c κs = search needs
+
+is-block-requires : tie.Need-is-block-requires
+is-block-requires c κs = search needs
+
+slot-at-requires-2 : tie.Need-slot-at-requires-2
+slot-at-requires-2 c κs = search needs
+
+is-block-requires-2 : tie.Need-is-block-requires-2
+is-block-requires-2 c κs = search needs
+
+returns : tie.Need-returns
+returns c = search passed-over
+
+edge-cost-requires : tie.Need-edge-cost-requires
+edge-cost-requires c κs = search needs
+
+returns-2 : tie.Need-returns-2
+returns-2 c = search counted
+
+pub active-edge-cost-spec : {M : Type 1} → statement M
+active-edge-cost-spec =
+    tie.close
+    (tie.spec
+    mul-index-at
+    index-at-requires
+    mul-index-at-2
+    add-index-at
+    index-at-requires-2
+    slot-at-requires
+    is-block-requires
+    slot-at-requires-2
+    is-block-requires-2
+    returns
+    edge-cost-requires
+    returns-2)

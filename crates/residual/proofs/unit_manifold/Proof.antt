@@ -1,0 +1,25 @@
+use Rattle.residual.specs.Retraction.{unitOf}
+use borrow.Author.Needs.{needs}
+use Rattle.residual.proofs.unit_manifold.Statement.{statement}
+use Rattle.residual.proofs.unit_manifold.Tie as tie
+
+enum-told : tie.Need-enum-told
+enum-told c = search needs
+
+enum-known-m : tie.Need-enum-known-m
+enum-known-m c = search needs
+
+normalized-gravity-requires : tie.Need-normalized-gravity-requires
+normalized-gravity-requires c κs = search needs
+
+returns : tie.Need-returns
+unfolding unitOf
+returns c = rw (c .enum-told .given .1)
+
+returns-2 : tie.Need-returns-2
+unfolding unitOf
+returns-2 c = rw (c .before .before .m .given .1) (cc)
+
+pub unit-manifold-spec : {M : Type 1} → statement M
+unit-manifold-spec =
+    tie.close (tie.spec enum-told enum-known-m normalized-gravity-requires returns returns-2)

@@ -1,0 +1,3 @@
+pub mod Retraction
+pub mod Residuals
+pub mod Costs

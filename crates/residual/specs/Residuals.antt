@@ -1,0 +1,50 @@
+-- The weighted relative residual of an edge: document 01, "Graph, residual, assembly". Definitions only.
+use mathlib.Core.Bool.{Bool, _&&_}
+use mathlib.Core.List.{List, [], _∷_}
+use lib.Ieee.{Float}
+use lib.Ieee.Scale.{finite}
+use Rattle.numbers.specs.Notation.{_⊠_, if-then}
+use Rattle.numbers.specs.declared.Failure.{Failure}
+use Rattle.numbers.specs.declared.Failure.the-variants.{Numerical}
+use Rattle.rotations.specs.Rotation.{product, inverse}
+use Rattle.rotations.specs.ExpLog.{logOf}
+use Rattle.rotations.specs.declared.Transform.{Transform}
+use Rattle.rotations.specs.declared.Twist.{Twist}
+use Rattle.rotations.specs.declared.Vec3F32.{Vec3F32}
+use Rattle.rotations.specs.declared.Pose.{Pose}
+use Rattle.pose_conversion.specs.Conversions.{finite3, validTransform, checkedTransform, converting}
+use Rattle.graph.specs.declared.Edge.{Edge}
+use Rattle.residual.specs.declared.Residual.{Residual}
+use Rattle.residual.specs.declared.Residual.the-variants.{Six, Failed}
+
+-- measured⁻¹ · (B · A⁻¹)
+unfoldable pub errorOf : Transform → Transform → Transform → Transform
+errorOf a b measured = product (inverse measured) (product b (inverse a))
+
+unfoldable pub weightedVec : Float → Vec3F32 → Vec3F32
+weightedVec w v = record { x = w ⊠ v.x; y = w ⊠ v.y; z = w ⊠ v.z }
+
+-- the six numbers of a log, narrowed already, times the weight in f32
+unfoldable pub weighted : Float → Twist → Twist
+weighted w d = record { t = weightedVec w d.t; r = weightedVec w d.r }
+
+unfoldable pub finiteTwist : Twist → Bool
+finiteTwist d = finite3 (d.t .x) (d.t .y) (d.t .z) && finite3 (d.r .x) (d.r .y) (d.r .z)
+
+unfoldable pub sixIfFinite : Twist → Residual
+sixIfFinite d = if-then (finiteTwist d) (Six d) (Failed Numerical)
+
+-- weight × log(measured⁻¹ · (B · A⁻¹)), translation first. The weight, the measured transform and both poses must convert, and the residual be finite.
+unfoldable pub residualOf : Pose → Pose → Edge → Residual
+residualOf a b e =
+    if-then (finite e.weight)
+    (converting (validTransform e.measured)
+    (λ m. converting (checkedTransform b)
+    (λ tb. converting (checkedTransform a)
+    (λ ta. sixIfFinite (weighted e.weight (logOf (errorOf ta tb m))))
+    Failed) Failed) Failed)
+    (Failed Numerical)
+
+-- the six numbers in order
+abbrev pub sixOf : Twist → List Float
+sixOf d = d.t .x ∷ d.t .y ∷ d.t .z ∷ d.r .x ∷ d.r .y ∷ d.r .z ∷ []
