@@ -10,4 +10,5 @@ pub mod Narrowing
 pub mod Rooting
 pub mod Cases
 pub mod Believe
+pub mod RootServes
 pub mod Bounded

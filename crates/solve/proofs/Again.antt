@@ -14,7 +14,6 @@ use Rattle.solve.specs.declared.Solved.{Solved}
 use Rattle.solve.specs.declared.Solved.the-variants.{Step, Failed, Short}
 use Rattle.solve.specs.Rule.{row, pivot, lower, definite, forward, step, solvable, nothing}
 use Rattle.solve.specs.Work.{need, matrixOf, gradientOf, stepAt, after, workAfter, stepIn, answerOf, leaves}
-use Rattle.solve.proofs.Index.{before}
 use Rattle.solve.proofs.Places.{at-step, system-after, gradient-after, length-after, read-after, read-kept, after-ext}
 use Rattle.solve.proofs.Close.{Answered}
 

@@ -1,6 +1,5 @@
 pub mod Tests
 pub mod Own
-pub mod RootServes
 pub mod Zeros
 pub mod Index
 pub mod Sums

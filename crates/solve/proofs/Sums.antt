@@ -1,7 +1,7 @@
 -- Laws of the rule's sums of products: what they read, products that change nothing, where they may start, and what is not finite. Assumes nothing.
 use mathlib.Core.Path.{_≡_, refl, ap, _∙_}
 use mathlib.Core.Logic.{_⊎_, inl, inr, ⊎-elim}
-use mathlib.Core.Bool.{Bool, true, false}
+use mathlib.Core.Bool.{true, false}
 use Prim.Native.Nat.{ℕ, zero, suc, _+_, _-_, _<_, _≤_, max}
 use native.Mathlib.Nat.{add-zero, add-suc, eq-or-lt-of-le, max-eq-left, max-eq-right}
 use native.Mathlib.Omega.{arith}

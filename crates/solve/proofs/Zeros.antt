@@ -1,7 +1,7 @@
 -- What a zero does in a sum, a product and a quotient of f32: v less ±0 is v, unless v is -0; +0 times a finite number is ±0; +0 by a number above 0 is +0;
 -- and what is not finite stays so. Nothing here speaks of a matrix. Assumes nothing.
 use mathlib.Core.Path.{_≡_, refl, sym, ap, _∙_}
-use mathlib.Core.Bool.{Bool, true, false, not, _&&_, and-true, true≢false}
+use mathlib.Core.Bool.{Bool, true, false, not, and-true, true≢false}
 use Prim.Native.Nat.{ℕ, zero, suc, _*_, _^_, _<_}
 use native.Mathlib.Nat.{add-zero, sub-zero, mul-one, zero-mul, mul-zero, mul-pos, zero-lt-suc, one-mul, pow-succ'}
 use native.Mathlib.Omega.{arith}
@@ -20,7 +20,7 @@ use Rattle.solve.specs.Rule.{serves}
 use Rattle.solve.specs.Profile.{minusZero}
 use Rattle.solve.proofs.Tests.{and-first}
 use Rattle.solve.proofs.Own.{rounded-own}
-use Rattle.solve.proofs.RootServes.{zero-is, above-zero}
+use Rattle.numbers.proofs.RootServes.{zero-is, above-zero}
 
 abbrev pub Fits : Float → Type 0
 Fits x = T (fits binary32 x)

@@ -21,7 +21,7 @@ pub enum Solved {
 }
 
 // Whether n (n + 3) numbers have room.
-fn room(len: usize, n: usize) -> bool
+pub fn has_room(len: usize, n: usize) -> bool
     ensures { λ r. ⌜ r ≡ leb (need n) len ⌝ }
 {
     if n == 0usize {
@@ -366,7 +366,7 @@ fn solve_in(w: &mut [f32], n: usize, damping: f32) -> Solved
 pub fn solve_damped(w: &mut [f32], n: usize, damping: f32) -> Solved
     ensures { λ r. ⌜ (r ≡ answerOf (now (w .entry)) n damping) × (now (w .exit) ≡ leaves (now (w .entry)) n damping (answerOf (now (w .entry)) n damping)) ⌝ }
 {
-    if room(w.len(), n) {
+    if has_room(w.len(), n) {
         return solve_in(w, n, damping);
     }
     Solved::Short

@@ -7,8 +7,8 @@ use native.Mathlib.Omega.{arith}
 use borrow.Author.Tests.{le-leb, lt-leb}
 use lib.Dec.{T, leb, leb→le, le→leb}
 use Rattle.solve.specs.Work.{need}
-use Rattle.solve.proofs.room.Statement.{statement}
-use Rattle.solve.proofs.room.Tie as tie
+use Rattle.solve.proofs.has_room.Statement.{statement}
+use Rattle.solve.proofs.has_room.Tie as tie
 
 same-test : (a b : Bool) → (T a → T b) → (T b → T a) → a ≡ b
 same-test true true p q = refl
@@ -48,5 +48,5 @@ returns-2 c = short (c .before .before .args .len) (c .before .before .args .n) 
 returns-3 : tie.Need-returns-3
 returns-3 c = fair (c .before .before .args .len) (c .before .before .args .n) (omega arith) (c .if2 .left)
 
-pub room-spec : {M : Type 1} → statement M
-room-spec = tie.close (tie.spec returns div-q returns-2 returns-3)
+pub has-room-spec : {M : Type 1} → statement M
+has-room-spec = tie.close (tie.spec returns div-q returns-2 returns-3)

@@ -16,10 +16,10 @@ use lib.Ieee.Exact.{units-val}
 use lib.Ieee.Nearest.{nearest-ge}
 use lib.Ieee.Positive.{positive, positive-of-value}
 use lib.Ieee.Scale.{finite}
 use Rattle.numbers.specs.Notation.{ratio, num}
 use Rattle.numbers.specs.Numbers.{wholeRoot, root, rooted}
-use Rattle.numbers.proofs.Rooting.{square-lt, wholeRoot-is}
+use Rattle.numbers.proofs.Rooting.{square-lt, square-pow, wholeRoot-is}
 use Rattle.numbers.proofs.Write.{size-gt}
 
 -- how many digits are dropped, and the room that is left
 drops : (z p : ℕ) → 0 < z → 2 ≤ p → 2 * ((z + 1) / 2 - p) < z
@@ -30,12 +30,6 @@ keeps z p e P R h = omega arith
 
 spans : (z p : ℕ) → z ≤ 2 * p + 2 * ((z + 1) / 2 - p)
 spans z p = omega arith
-
-double : (p : ℕ) → 2 ^ p * 2 ^ p ≡ 2 ^ (2 * p)
-double p = sym (pow-add 2 p p) ∙ ap (λ (x : ℕ). 2 ^ x) (twice p)
-  where
-    twice : (p : ℕ) → p + p ≡ 2 * p
-    twice p = omega arith
 
 module _ (f : Format) (a c : ℕ) (A : 0 < a) (C : 0 < c) (deep : c ≤ 2 ^ low f) (under : a < 2 ^ suc (emax f) * c) where
   abbrev n : ℕ
@@ -96,7 +90,7 @@ module _ (f : Format) (a c : ℕ) (A : 0 < a) (C : 0 < c) (deep : c ≤ 2 ^ low 
   r-le : r ≤ 2 ^ prec f
   r-le =
       le-trans (nearest-le q (compare (4 * n) ((2 * q + 1) * (2 * q + 1) * u)))
-      (square-lt q (2 ^ prec f) (lt-of-le-of-lt (wholeRoot-is (prec f) (n / u) few .0) (lt-of-lt-of-le few (le-of-eq (sym (double (prec f)))))))
+      (square-lt q (2 ^ prec f) (lt-of-le-of-lt (wholeRoot-is (prec f) (n / u) few .0) (lt-of-lt-of-le few (le-of-eq (sym (square-pow (prec f)))))))
 
   r-under : r * 2 ^ k < 2 ^ (low f + suc (emax f))
   r-under =
