@@ -88,13 +88,13 @@ pub fn se3_to_pose(a: Transform) -> Pose
     }
 }
 
-fn vec3_f64_is_finite(v: Vec3) -> bool
+pub fn vec3_f64_is_finite(v: Vec3) -> bool
     ensures { λ r. ⌜ r ≡ finite3 (v .x) (v .y) (v .z) ⌝ }
 {
     numbers::is_finite64(v.x) & (numbers::is_finite64(v.y) & numbers::is_finite64(v.z))
 }
 
-fn vec3_f32_is_finite(v: Vec3F32) -> bool
+pub fn vec3_f32_is_finite(v: Vec3F32) -> bool
     ensures { λ r. ⌜ r ≡ finite3 (v .x) (v .y) (v .z) ⌝ }
 {
     numbers::is_finite32(v.x) & (numbers::is_finite32(v.y) & numbers::is_finite32(v.z))
@@ -118,7 +118,7 @@ pub fn validate_se3(a: Transform) -> bool
         & (vec3_f32_is_finite(m.y) & (vec3_f32_is_finite(m.z) & vec3_f32_is_finite(a.t)))
 }
 
-fn valid_se3(a: Transform) -> Converted
+pub fn valid_se3(a: Transform) -> Converted
     ensures { λ r. ⌜ r ≡ validTransform a ⌝ }
 {
     if validate_se3(a) {
@@ -128,7 +128,7 @@ fn valid_se3(a: Transform) -> Converted
     }
 }
 
-fn valid_pose(p: Pose) -> Restored
+pub fn valid_pose(p: Pose) -> Restored
     ensures { λ r. ⌜ r ≡ validPose p ⌝ }
 {
     if validate_pose(p) {

@@ -1,5 +1,5 @@
 -- A square, an edge, a turn of the cost's loop and its ends. Assumes nothing.
-use mathlib.Core.Path.{_≡_, refl, sym, ap, _∙_}
+use mathlib.Core.Path.{_≡_, sym, ap, _∙_}
 use mathlib.Core.Bool.{Bool, true, false, not, _||_}
 use mathlib.Core.List.{List}
 use Prim.Native.Nat.{ℕ, _+_, _<_}
@@ -20,7 +20,6 @@ use Rattle.graph.specs.declared.Edge.{Edge}
 use Rattle.residual.specs.Residuals.{residualOf}
 use Rattle.residual.specs.declared.Priced.{Priced}
 use Rattle.residual.specs.declared.Priced.the-variants as price
-use Rattle.residual.specs.declared.Cost.{Cost}
 use Rattle.residual.specs.declared.Cost.the-variants as cost
 use Rattle.residual.specs.Costs.{squareStep, priced, pricedFrom, priceAt, costFrom}
 

@@ -1,3 +1,4 @@
 pub mod Retraction
 pub mod Residuals
 pub mod Costs
+pub mod Samples

@@ -10,7 +10,7 @@ ghost use Rattle.graph.specs.Graph.{isBlock, isActive};
 ghost use Rattle.graph.specs.Lent.{poseAt, edgeAt, lentLinks};
 ghost use Rattle.graph.specs.Table.{lengthOf};
 ghost use Rattle.residual.specs.Retraction.{at, retractSe3, centreOf, turnedPose, retractGravity, retractOf, unitOf};
-ghost use Rattle.residual.specs.Residuals.{errorOf, weightedVec, weighted, finiteTwist, sixIfFinite, residualOf, sixOf};
+ghost use Rattle.residual.specs.Residuals.{errorOf, weightedVec, weighted, sixIfFinite, residualOf, sixOf};
 ghost use Rattle.residual.specs.Costs.{squareStep, priced, pricedFrom, priceAt, costOf};
 use graph::Edge;
 use graph::Manifold;

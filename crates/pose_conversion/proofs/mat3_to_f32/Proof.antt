@@ -14,7 +14,12 @@ vec3-to-f32-requires-3 c κs = search needs
 
 returns : tie.Need-returns
 unfolding matF32
-returns c = cc
+returns c =
+    rw (
+      c .vec3-to-f323 .ensures,
+      c .before .vec3-to-f322 .ensures,
+      c .before .before .vec3-to-f32 .ensures,
+    )
 
 pub mat3-to-f32-spec : {M : Type 1} → statement M
 mat3-to-f32-spec =

@@ -14,7 +14,12 @@ vec3-to-f64-requires c κs = search needs
 
 returns : tie.Need-returns
 unfolding poseOf
-returns c = cc
+returns c =
+    rw (
+      c .vec3-to-f64 .ensures,
+      c .before .mat3-to-f64 .ensures,
+      c .before .before .rebuilt-matrix .ensures,
+    )
 
 pub se3-to-pose-spec : {M : Type 1} → statement M
 se3-to-pose-spec =

@@ -20,7 +20,14 @@ vec3-f32-is-finite-requires-4 c κs = search needs
 
 returns : tie.Need-returns
 unfolding finiteTransform
-returns c = cc
+returns c =
+    rw (
+      c .vec3-f32-is-finite4 .ensures,
+      c .before .vec3-f32-is-finite3 .ensures,
+      c .before .before .vec3-f32-is-finite2 .ensures,
+      c .before .before .before .vec3-f32-is-finite .ensures,
+      c .before .before .before .before .rebuilt-matrix .ensures,
+    )
 
 pub validate-se3-spec : {M : Type 1} → statement M
 validate-se3-spec =

@@ -1,5 +1,4 @@
 use Rattle.residual.specs.Residuals.{weightedVec}
-use borrow.Author.Needs.{needs}
 use Rattle.residual.proofs.weigh_vec.Statement.{statement}
 use Rattle.residual.proofs.weigh_vec.Tie as tie
 

@@ -23,7 +23,15 @@ finish-requires c κs = search needs
 
 returns : tie.Need-returns
 unfolding inverse
-returns c = cc
+returns c =
+    rw (
+      c .finish .ensures,
+      c .before .negated .ensures,
+      c .before .before .turn-vec .ensures,
+      c .before .before .before .matrix-of .ensures,
+      c .before .before .before .before .conjugate-of .ensures,
+      c .before .before .before .before .before .widened .ensures,
+    )
 
 pub inverse-of-spec : {M : Type 1} → statement M
 inverse-of-spec =

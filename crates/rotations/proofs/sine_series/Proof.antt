@@ -1,3 +1,4 @@
+use mathlib.Core.Path.{refl}
 use lib.Ieee.{ofBits}
 use Rattle.numbers.specs.Notation.{ratio}
 use Rattle.rotations.specs.ExpLog.{sineSeries, series}
@@ -6,7 +7,7 @@ use Rattle.rotations.proofs.sine_series.Tie as tie
 
 returns : tie.Need-returns
 unfolding sineSeries ratio ofBits series
-returns c = cc
+returns c = refl
 
 pub sine-series-spec : {M : Type 1} → statement M
 sine-series-spec = tie.close (tie.spec returns)

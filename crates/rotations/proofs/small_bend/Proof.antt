@@ -1,3 +1,4 @@
+use mathlib.Core.Path.{refl}
 use lib.Ieee.{ofBits}
 use Rattle.numbers.specs.Notation.{ratio}
 use Rattle.rotations.specs.ExpLog.{smallBend, series}
@@ -6,7 +7,7 @@ use Rattle.rotations.proofs.small_bend.Tie as tie
 
 returns : tie.Need-returns
 unfolding smallBend ratio ofBits series
-returns c = cc
+returns c = refl
 
 pub small-bend-spec : {M : Type 1} → statement M
 small-bend-spec = tie.close (tie.spec returns)
