@@ -1,0 +1,2 @@
+pub mod Jacobians
+pub mod Assembly

@@ -1,0 +1,21 @@
+use Rattle.exports.specs.Layers.{matrixFrom}
+use borrow.Author.Needs.{needs}
+use Rattle.exports.proofs.matrix_from.Statement.{statement}
+use Rattle.exports.proofs.matrix_from.Tie as tie
+
+vec32-from-requires : tie.Need-vec32-from-requires
+vec32-from-requires c κs = search needs
+
+vec32-from-requires-2 : tie.Need-vec32-from-requires-2
+vec32-from-requires-2 c κs = search needs
+
+vec32-from-requires-3 : tie.Need-vec32-from-requires-3
+vec32-from-requires-3 c κs = search needs
+
+returns : tie.Need-returns
+unfolding matrixFrom
+returns c = cc
+
+pub matrix-from-spec : {M : Type 1} → statement M
+matrix-from-spec =
+    tie.close (tie.spec vec32-from-requires vec32-from-requires-2 vec32-from-requires-3 returns)

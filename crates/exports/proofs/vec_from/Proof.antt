@@ -1,0 +1,18 @@
+use borrow.Author.Needs.{needs}
+use Rattle.exports.proofs.vec_from.Statement.{statement}
+use Rattle.exports.proofs.vec_from.Tie as tie
+
+at64-requires : tie.Need-at64-requires
+at64-requires c κs = search needs
+
+at64-requires-2 : tie.Need-at64-requires-2
+at64-requires-2 c κs = search needs
+
+at64-requires-3 : tie.Need-at64-requires-3
+at64-requires-3 c κs = search needs
+
+returns : tie.Need-returns
+returns c = cc
+
+pub vec-from-spec : {M : Type 1} → statement M
+vec-from-spec = tie.close (tie.spec at64-requires at64-requires-2 at64-requires-3 returns)
