@@ -1,0 +1,120 @@
+-- What an assembly leaves in the work, done or stopped: as many numbers; past n (n + 3) those that it found; and +0 in every place that is neither
+-- in the lower triangle of H nor in the gradient, so that a solve finds its scratch and its step clear. Assumes nothing.
+use mathlib.Core.Path.{_≡_, refl, sym, ap, subst, _∙_}
+use mathlib.Core.Bool.{Bool, true, false}
+use mathlib.Core.List.{List, _++_}
+use Prim.Native.Nat.{ℕ, _+_, _-_, _*_, _/_, _%_, _<_, _≤_}
+use native.Mathlib.Omega.{arith}
+use lib.Arith.{digits-div, digits-mod, digits-lt}
+use lib.Dec.{ltb, leb}
+use lib.ListN.{length, getD, set, drop, replicate, length-append, length-drop, length-set, length-replicate, getD-replicate, List·getD-append}
+use lib.Seq.{getD-drop, getD-append-add, getD-set-other}
+use lib.Ieee.{Float, nan}
+use borrow.Author.Tests.{lt-ltb, le-ltb, le-leb, ltb-true, ltb-false}
+use Rattle.numbers.specs.Notation.{_⊞_, num, if-then}
+use Rattle.numbers.specs.Walks.{Ended, done, stopped, mustBeFinite}
+use Rattle.numbers.specs.declared.Failure.{Failure}
+use Rattle.numbers.specs.declared.Went.{Went}
+use Rattle.numbers.specs.declared.Went.the-variants.{Well, Bad}
+use Rattle.numbers.proofs.Choices.{taken, left}
+use Rattle.numbers.proofs.Tables.{is-table}
+use Rattle.rotations.specs.declared.Pose.{Pose}
+use Rattle.graph.specs.Graph.{Links}
+use Rattle.graph.specs.declared.Edge.{Edge}
+use Rattle.graph.specs.declared.Manifold.{Manifold}
+use Rattle.solve.specs.Rule.{nothing}
+use Rattle.solve.specs.Work.{need, Place, kept, scratch, stepAt, placeOf, after, workAfter}
+use Rattle.assembly.specs.Assembly.{addTo, cleared, assembledEnds, assembledFrom, assembledOf}
+use Rattle.assembly.specs.declared.Assembled.the-variants as assembled
+use Rattle.assembly.proofs.Invariants.{Good, Over}
+use Rattle.assembly.proofs.Walked.{Fits, edges-over}
+
+-- ---- the places of the system, and those past it
+module _ (n : ℕ) where
+  at-matrix : (i j : ℕ) → j ≤ i → i < n → placeOf n (j * n + i) ≡ kept
+  unfolding placeOf
+  at-matrix i j h l =
+      sym (taken _ (lt-ltb (j * n + i) (n * n) (digits-lt (omega arith) l)) (taken _ (rw (digits-div j l, digits-mod j l) (le-leb j i h)) refl))
+
+  at-gradient : (i : ℕ) → i < n → placeOf n (n * n + n + i) ≡ kept
+  unfolding placeOf
+  at-gradient i l =
+      sym (left _ (le-ltb (n * n + n + i) (n * n) (omega arith)) (left _ (le-ltb (n * n + n + i) (n * n + n) (omega arith)) (taken _ (lt-ltb (n * n + n + i) (n * n + n + n) (omega arith)) refl)))
+
+  at-rest : (q : ℕ) → need n ≤ q → placeOf n q ≡ kept
+  unfolding placeOf
+  at-rest q h =
+      sym
+      (left _ (le-ltb q (n * n) (omega arith))
+      (left _ (le-ltb q (n * n + n) (omega arith))
+      (left _ (le-ltb q (n * n + n + n) (omega arith)) (left _ (le-ltb q (need n) h) refl))))
+
+-- ---- what is left
+pub record Clean (n : ℕ) (w y : List Float) : Type 0 where
+  pub same-length : length y ≡ length w
+  pub rest-as-found : (q : ℕ) → need n ≤ q → getD y q nan ≡ getD w q nan
+  pub others-zero : (q : ℕ) → (placeOf n q ≡ kept → ⊥) → getD y q nan ≡ num 0
+
+module _ (n : ℕ) (w : List Float) where
+  -- a store to a place of the system
+  stored : (y : List Float) (p : ℕ) (v : Float) → placeOf n p ≡ kept → p < need n → Clean n w y → Clean n w (set y p v)
+  stored y p v h b s =
+      record {
+        same-length = length-set y p v ∙ s .same-length;
+        rest-as-found = λ q l. getD-set-other y p q v nan (λ e. omega arith) ∙ s .rest-as-found q l;
+        others-zero = λ q o. getD-set-other y p q v nan (λ e. o (ap (placeOf n) e ∙ h)) ∙ s .others-zero q o;
+      }
+
+  said : (x : Went) (y : List Float) → Clean n w y → Good (Clean n w) (Clean n w) (x, y)
+  said Well y s = s
+  said (Bad why) y s = s
+
+  added : (y : List Float) (p : ℕ) (v : Float) → placeOf n p ≡ kept → p < need n → Clean n w y → Good (Clean n w) (Clean n w) (addTo y p v)
+  unfolding addTo
+  added y p v h b s = let t = getD y p nan ⊞ v in said (mustBeFinite t) (set y p t) (stored y p t h b s)
+
+  module _ (room : need n ≤ length w) where
+    start-clean : Clean n w (cleared n w)
+    start-clean =
+        record {
+          same-length = simp (length-append, length-replicate, length-drop) (omega arith);
+          rest-as-found = λ q l.
+              let e : q ≡ length (replicate (need n) (num 0)) + (q - need n) = rw (length-replicate (need n) (num 0)) (omega arith) in
+              let f : need n + (q - need n) ≡ q = omega arith in
+              ap (λ k. getD (cleared n w) k nan) e ∙ getD-append-add (replicate (need n) (num 0)) (drop (need n) w) (q - need n) nan
+              ∙ getD-drop (need n) w (q - need n) nan ∙ ap (λ k. getD w k nan) f;
+          others-zero = λ q o.
+              let l : q < need n = below q (ltb q (need n)) refl o in
+              List·getD-append (replicate (need n) (num 0)) (drop (need n) w) nan q (rw (length-replicate (need n) (num 0)) l)
+              ∙ getD-replicate (need n) q (num 0) nan l;
+        }
+      where
+        below : (q : ℕ) (t : Bool) → ltb q (need n) ≡ t → (placeOf n q ≡ kept → ⊥) → q < need n
+        below q true e o = ltb-true q (need n) e
+        below q false e o = absurd (o (at-rest n q (ltb-false q (need n) e)))
+
+    -- done or stopped
+    pub edges-clean : (m : Manifold) (l : Links Edge) (pose : ℕ → Pose) → Fits m n l → Over (Clean n w) (Clean n w) (assembledEnds m n l pose w)
+    edges-clean m l pose f =
+        edges-over n (Clean n w) (Clean n w) (λ _ s. s)
+        (λ y i j v h b s. added y (j * n + i) v (at-matrix n i j h b) (let z : j * n + i < n * n = digits-lt (omega arith) b in omega arith) s)
+        (λ y i v b s. added y (n * n + n + i) v (at-gradient n i b) (omega arith) s)
+        m l pose w f start-clean
+
+    pub assembled-clean : (m : Manifold) (l : Links Edge) (pose : ℕ → Pose) → Fits m n l → Clean n w (assembledOf m n l pose w .1)
+    unfolding assembledOf if-then
+    assembled-clean m l pose f = rw (le-ltb (length w) (need n) room) (go (assembledEnds m n l pose w) (edges-clean m l pose f))
+      where
+        go : (e : Ended (List Float)) → Over (Clean n w) (Clean n w) e → Clean n w (assembledFrom e .1)
+        go (done y) s = s
+        go (stopped k why y) s = s
+
+-- a solve that failed would leave it as it is
+pub clean-after : (n : ℕ) (w y : List Float) → Clean n w y → workAfter y n nothing ≡ y
+unfolding workAfter
+clean-after n w y s = sym (is-table nan y (λ q. after nothing (getD y q nan) (placeOf n q)) (length y) refl (λ q _. at q (placeOf n q) refl))
+  where
+    at : (q : ℕ) (p : Place) → placeOf n q ≡ p → getD y q nan ≡ after nothing (getD y q nan) p
+    at q kept e = refl
+    at q scratch e = s .others-zero q (λ h. let z : _≡_ {A = ℕ} 0 1 = cc in omega arith)
+    at q (stepAt i) e = s .others-zero q (λ h. let z : _≡_ {A = ℕ} 0 1 = cc in omega arith)

@@ -1,0 +1,15 @@
+pub mod General
+pub mod Laying
+pub mod Steps
+pub mod Halves
+pub mod Trials
+pub mod Commits
+pub mod Parted
+pub mod Evaluating
+pub mod Attempts
+pub mod Assembling
+pub mod Settling
+pub mod Turning
+pub mod Looping
+pub mod Running
+pub mod Border

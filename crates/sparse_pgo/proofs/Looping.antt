@@ -1,0 +1,109 @@
+-- The turns one after the other: what the loop keeps, and what it knows at its end. Assumes nothing.
+use mathlib.Core.Path.{_≡_, refl, sym, ap, _∙_, subst}
+use mathlib.Core.Bool.{Bool, true, false}
+use mathlib.Core.List.{List}
+use Prim.Native.Nat.{ℕ, _+_, _*_, _<_, _≤_}
+use native.Mathlib.Omega.{arith}
+use denote.Floats.{is-true}
+use lib.Dec.{T}
+use lib.ListN.{length}
+use lib.Ieee.{Float, nan, inf, fin, binary32, lt, le, fits}
+use Rattle.numbers.specs.Notation.{num, ratio, ratio32}
+use Rattle.graph.specs.Graph.{Links}
+use Rattle.graph.specs.declared.Edge.{Edge}
+use Rattle.decisions.specs.Damping.{most}
+use Rattle.decisions.specs.Run.{begun, turned}
+use Rattle.decisions.specs.Machine.{Play, movedOn, played, stateOf}
+use Rattle.decisions.specs.declared.State.{State}
+use Rattle.decisions.specs.declared.End.{End}
+use Rattle.decisions.specs.declared.Next.{Next}
+use Rattle.decisions.specs.declared.Next.the-variants as next
+use Rattle.decisions.proofs.Order.{unsigned, le-of-not-lt}
+use Rattle.decisions.proofs.Going.{Going, turnsLeft, going-begin, going-on, going-less, going-done}
+use Rattle.sparse_pgo.specs.declared.Job.{Job}
+use Rattle.sparse_pgo.specs.Parts.{numerics}
+use Rattle.sparse_pgo.specs.Turns.{partsIn, heldIn, triedIn, linksIn, slotsIn, Lent, Beside, Holds, Turned, Startable, Iterated}
+
+-- ---- a first damping that passes row 19 is at most 1e10
+
+above-zero : (d : Float) → T (lt (num 0) d) → T (unsigned d)
+unfolding lt ratio
+above-zero nan h = absurd h
+above-zero (inf true) h = absurd h
+above-zero (inf false) h = tt
+above-zero (fin true m e) h = absurd h
+above-zero (fin false m e) h = tt
+
+most-unsigned : T (unsigned most)
+unfolding ratio32
+most-unsigned = tt
+
+pub not-above : (d : Float) → lt (num 0) d ≡ true → lt most d ≡ false → le d most ≡ true
+not-above d p u = is-true (le d most) (le-of-not-lt d most (above-zero d (subst T (sym p) tt)) most-unsigned u)
+
+-- ---- the loop's invariant: the lent work is as long as needed; the trial's poses agree with the accepted ones where nothing is free; the system stands in the work
+-- where it is not to be assembled; and the whole run is what is left of it from here
+
+pub record Turning (job : Job) (l : Links Edge) (cost : Float) (first w32 w64 : List Float) (s : State) : Type 0 where
+  pub lent : Lent job w32 w64
+  pub beside : Beside (l .slot) (heldIn job w64) (triedIn job w64)
+  pub holds : s .fresh ≡ false → Holds job l (heldIn job w64) w32
+  pub going : Going (numerics (partsIn job l)) (job .settings .limit) (job .settings .«cost_tolerance») cost (job .settings .damping) (heldIn job first) s (heldIn job w64)
+
+pub turning-begin : (job : Job) (l : Links Edge) (cost : Float) (w32 w64 : List Float) (s : State) → s ≡ begun cost (job .settings .damping) → Lent job w32 w64 → Startable job
+    → T (fits binary32 (job .settings .damping)) → Beside (l .slot) (heldIn job w64) (triedIn job w64) → Turning job l cost w64 w32 w64 s
+turning-begin job l cost w32 w64 s e lent start f b =
+    record {
+      lent = lent;
+      beside = b;
+      holds = λ q. absurd (subst T (sym (ap (λ (z : State). z .fresh) e) ∙ q) tt);
+      going =
+          rw e
+          (going-begin (numerics (partsIn job l)) (job .settings .limit) (job .settings .«cost_tolerance») cost (job .settings .damping) (heldIn job w64)
+          (start .limited) f (start .positive) (not-above (job .settings .damping) (start .positive) (start .bounded)));
+    }
+
+module _ (job : Job) (l : Links Edge) (cost : Float) (first w32 w64 : List Float) (s : State) (g : Turning job l cost first w32 w64 s) where
+  abbrev limit : ℕ
+  limit = job .settings .limit
+
+  abbrev tolerance : Float
+  tolerance = job .settings .«cost_tolerance»
+
+  abbrev damping : Float
+  damping = job .settings .damping
+
+  -- a count that one more fits
+  pub turning-few : s .accepted < 4294967295
+  turning-few =
+      let a : s .accepted + s .rejected ≤ limit = g .going .live .trials in
+      let b : limit ≤ 1000 = g .going .live .limited in
+      omega arith
+
+  module _ (w32' w64' : List Float) (r : Next) (h : Turned job l s w64 r w32' w64') where
+    -- what is held then
+    held-then : (t : State) → stateOf r ≡ t → heldIn job w64' ≡ movedOn s t (numerics (partsIn job l) .moved (heldIn job w64) (s .damping)) (heldIn job w64)
+    held-then t e = h .held ∙ ap (λ (z : State). movedOn s z (numerics (partsIn job l) .moved (heldIn job w64) (s .damping)) (heldIn job w64)) e
+
+    module _ (t : State) (e : r ≡ next.On t) where
+      pub turning-on : length w64' ≡ length w64 → Turning job l cost first w32' w64' t
+      turning-on k =
+          record {
+            lent = record { sized = g .lent .sized; single = h .long; double = k ∙ g .lent .double };
+            beside = h .beside;
+            holds = λ f. h .holds t e f;
+            going =
+                rw (held-then t (ap stateOf e))
+                (going-on (numerics (partsIn job l)) limit tolerance cost damping (heldIn job first) s (heldIn job w64) (g .going) t (sym (h .answer) ∙ e));
+          }
+
+      pub turning-less : turnsLeft (job .settings .limit) t < turnsLeft (job .settings .limit) s
+      turning-less = going-less (numerics (partsIn job l)) limit tolerance cost damping (heldIn job first) s (heldIn job w64) (g .going) t (sym (h .answer) ∙ e)
+
+    pub turning-over : (t : State) (e : End) → r ≡ next.Over t e → Iterated job l cost first (next.Over t e) w64'
+    turning-over t e q =
+        let d = going-done (numerics (partsIn job l)) limit tolerance cost damping (heldIn job first) s (heldIn job w64) (g .going) t e (sym (h .answer) ∙ q) in
+        record {
+          answer = ap (λ (y : Play (List Float)). y .next) (sym d);
+          held = held-then t (ap stateOf q) ∙ ap (λ (y : Play (List Float)). y .held) (sym d);
+        }

@@ -1,0 +1,159 @@
+-- From the first cost to the end, and what is left in the lent numbers. Assumes nothing.
+use mathlib.Core.Path.{_≡_, refl, sym, ap, _∙_, subst}
+use mathlib.Core.Bool.{Bool, true}
+use mathlib.Core.List.{List, _++_}
+use Prim.Native.Nat.{ℕ, _+_, _*_, _-_, _<_, _≤_}
+use native.Mathlib.Omega.{arith}
+use lib.Dec.{T}
+use lib.ListN.{length, take, drop, replicate, length-append, length-drop}
+use lib.Seq.{take-at, drop-at, length-take-le, length-front}
+use lib.Ieee.{Float, binary32, fits}
+use Rattle.numbers.specs.Notation.{num}
+use Rattle.numbers.specs.Walks.{Ended, done, stopped}
+use Rattle.numbers.specs.Refusals.{refusal}
+use Rattle.numbers.specs.declared.Failure.{Failure}
+use Rattle.numbers.specs.declared.Failure.the-variants.{Numerical}
+use Rattle.numbers.specs.declared.Refusal.{Refusal}
+use Rattle.graph.specs.Graph.{Links}
+use Rattle.graph.specs.Lent.{poseAt}
+use Rattle.graph.specs.declared.Edge.{Edge}
+use Rattle.residual.specs.Costs.{costEnds, costOf}
+use Rattle.residual.specs.declared.Cost.{Cost}
+use Rattle.residual.specs.declared.Cost.the-variants as cost
+use Rattle.decisions.specs.Run.{iterations}
+use Rattle.decisions.specs.Machine.{stateOf, played}
+use Rattle.decisions.specs.Demand.{Held}
+use Rattle.decisions.specs.declared.State.{State}
+use Rattle.decisions.specs.declared.Why.{Why}
+use Rattle.decisions.specs.declared.End.{End}
+use Rattle.decisions.specs.declared.End.the-variants as end
+use Rattle.decisions.specs.declared.Next.{Next}
+use Rattle.decisions.specs.declared.Next.the-variants as next
+use Rattle.decisions.proofs.Machines.{played-held}
+use Rattle.sparse_pgo.specs.declared.Job.{Job}
+use Rattle.sparse_pgo.specs.declared.Joined.{Joined}
+use Rattle.sparse_pgo.specs.declared.Answer.{Answer}
+use Rattle.sparse_pgo.specs.declared.Answer.the-variants as answer
+use Rattle.sparse_pgo.specs.Parts.{Whole, numerics, hasConverged, answerOf, costRow, whole, wholeFrom}
+use Rattle.sparse_pgo.specs.Numerics.{partsOn}
+use Rattle.sparse_pgo.specs.Optimize.{given}
+use Rattle.sparse_pgo.specs.Turns.{partsIn, heldIn, triedIn, linksIn, slotsIn, Lent, Beside, Startable, Iterated, Started, Begun}
+use Rattle.sparse_pgo.proofs.Parted.{partFrom, withPart, with-part, length-part}
+use Rattle.sparse_pgo.proofs.Evaluating.{cost-had, cost-bad}
+use Rattle.sparse_pgo.proofs.Settling.{beside-same}
+use Rattle.sparse_pgo.proofs.Looping.{not-above}
+
+-- ---- the answer, as the code comes by it
+
+pub counted : {n : Next} {s : State} {e : End} → n ≡ next.Over s e → iterations (stateOf n) < 4294967296 → s .accepted + s .rejected < 4294967296
+counted q h = rw q at h
+
+module _ (first : Float) {n : Next} where
+  pub answer-on : {s : State} → n ≡ next.On s → answer.Refused (refusal 0 0) ≡ answerOf first n
+  answer-on q = rw q
+
+  pub answer-refused : {s : State} {e : End} {r : Refusal} → n ≡ next.Over s e → e ≡ end.Refused r → answer.Refused r ≡ answerOf first n
+  answer-refused q t = rw (q, t)
+
+  pub answer-joined : {s : State} {e : End} {w : Why} {c : Bool} → n ≡ next.Over s e → e ≡ end.Stopped w → c ≡ hasConverged w
+      → answer.Joined (record { iterations = s .accepted + s .rejected; converged = c; accepted = s .accepted; rejected = s .rejected; failed = s .failed; «first_cost» = first; «last_cost» = s .cost; why = w }) ≡ answerOf first n
+  answer-joined q t h = rw (q, t, h)
+
+-- ---- from the first cost on
+
+module _ (job : Job) (ends : List ℕ) (edges : List Float) (blocks : List ℕ) (before : List Float) where
+  abbrev l : Links Edge
+  l = linksIn job ends edges blocks
+
+  -- demand 3 bounds the iterations
+  pub counts-fit : (c : Float) (r : Next) (after : List Float) → Startable job → T (fits binary32 (job .settings .damping)) → Iterated job (linksIn job ends edges blocks) c before r after
+      → iterations (stateOf r) < 4294967296
+  counts-fit c r after start f h =
+      let held : Held (job .settings .limit) c (stateOf (played (numerics (partsIn job l)) (job .settings .limit) (job .settings .«cost_tolerance») c (job .settings .damping) (heldIn job before) .next))
+      = played-held (numerics (partsIn job l)) (job .settings .limit) (job .settings .«cost_tolerance») c (job .settings .damping) (heldIn job before)
+      (start .limited) f (start .positive) (not-above (job .settings .damping) (start .positive) (start .bounded)) in
+      let trials : iterations (stateOf r) ≤ job .settings .limit = rw (h .answer) (held .trials) in
+      let few : job .settings .limit ≤ 1000 = start .limited in
+      omega arith
+
+  module _ (found : Cost) (e : found ≡ costOf (linksIn job ends edges blocks) (poseAt (take (job .poses * 12) before))) where
+    whole-is : (d : Ended Float) → costEnds l (poseAt (heldIn job before)) ≡ d → whole (partsIn job l) (job .settings) (heldIn job before) ≡ wholeFrom (partsIn job l) (job .settings) (heldIn job before) d
+    unfolding whole partsOn
+    whole-is d q = rw q
+
+    pub start-bad : (k : ℕ) (why : Failure) → found ≡ cost.Bad k why → Started job (linksIn job ends edges blocks) before (answer.Refused (refusal 20 k)) before
+    start-bad k Numerical q =
+        let c = cost-bad l _ found e k Numerical q in
+        record { answer = ap (λ (y : Whole (List Float)). y .answer) (sym (whole-is _ (c .ends))); held = ap (λ (y : Whole (List Float)). y .held) (sym (whole-is _ (c .ends))) }
+
+    pub start-goes : (c : Float) (n : Next) (r : Answer) (after : List Float) → found ≡ cost.Of c → Iterated job (linksIn job ends edges blocks) c before n after → r ≡ answerOf c n
+        → Started job (linksIn job ends edges blocks) before r after
+    start-goes c n r after q h a =
+        let w = whole-is _ (cost-had l _ found e c q) in
+        record {
+          answer = a ∙ ap (answerOf c) (h .answer) ∙ ap (λ (y : Whole (List Float)). y .answer) (sym w);
+          held = h .held ∙ ap (λ (y : Whole (List Float)). y .held) (sym w);
+        }
+
+-- ---- poses in, the run, poses out, the work cleared
+
+module _ (job : Job) (ends : List ℕ) (edges : List Float) (blocks : List ℕ) (poses w32 w64 y z : List Float)
+    (lent : Lent job w32 w64) (size : length poses ≡ job .poses * 12) (hy : y ≡ poses) (hz : z ≡ poses) where
+  abbrev half : ℕ
+  half = job .poses * 12
+
+  -- with the poses in the first half, and in both
+  abbrev one : List Float
+  one = y ++ drop (job .poses * 12) w64
+
+  abbrev two : List Float
+  two = withPart (job .poses * 12) (y ++ drop (job .poses * 12) w64) z
+
+  first : take half one ≡ poses
+  first = take-at y (drop half w64) half (ap length hy ∙ size) ∙ hy
+
+  two-is : two ≡ poses ++ poses
+  two-is = with-part half one z ∙ (rw (first, hz))
+
+  pub in-held : heldIn job (withPart (job .poses * 12) (y ++ drop (job .poses * 12) w64) z) ≡ poses
+  in-held = rw two-is (take-at poses poses half size)
+
+  pub in-tried : triedIn job (withPart (job .poses * 12) (y ++ drop (job .poses * 12) w64) z) ≡ poses
+  in-tried = rw two-is (drop-at poses poses half size)
+
+  pub in-length : length (withPart (job .poses * 12) (y ++ drop (job .poses * 12) w64) z) ≡ length w64
+  in-length = let a = length-append poses poses in let b : length w64 ≡ job .poses * 24 = lent .double in rw two-is (omega arith)
+
+  pub in-lent : Lent job w32 (withPart (job .poses * 12) (y ++ drop (job .poses * 12) w64) z)
+  in-lent = record { sized = lent .sized; single = lent .single; double = in-length ∙ lent .double }
+
+  pub in-beside : Beside (slotsIn job blocks) (heldIn job (withPart (job .poses * 12) (y ++ drop (job .poses * 12) w64) z)) (triedIn job (withPart (job .poses * 12) (y ++ drop (job .poses * 12) w64) z))
+  in-beside = rw (in-held, in-tried) (beside-same (slotsIn job blocks) poses)
+
+  module _ (a : Answer) (mid32 mid64 last32 last64 out : List Float)
+      (s : Started job (linksIn job ends edges blocks) (withPart (job .poses * 12) (y ++ drop (job .poses * 12) w64) z) a mid64)
+      (z32 : last32 ≡ replicate (length mid32) (num 0)) (z64 : last64 ≡ replicate (length mid64) (num 0))
+      (l32 : length mid32 ≡ length w32) (l64 : length mid64 ≡ length (withPart (job .poses * 12) (y ++ drop (job .poses * 12) w64) z)) where
+    abbrev run : Whole (List Float)
+    run = whole (partsIn job (linksIn job ends edges blocks)) (job .settings) poses
+
+    answered : a ≡ run .answer
+    answered = s .answer ∙ ap (λ (x : List Float). whole (partsIn job (linksIn job ends edges blocks)) (job .settings) x .answer) in-held
+
+    come-to : heldIn job mid64 ≡ run .held
+    come-to = s .held ∙ ap (λ (x : List Float). whole (partsIn job (linksIn job ends edges blocks)) (job .settings) x .held) in-held
+
+    ends-with : (last : List Float) → last ≡ given out run a → Begun job (linksIn job ends edges blocks) poses w32 w64 out a last32 last64 last
+    ends-with last o =
+        record {
+          answer = answered;
+          zero32 = z32 ∙ ap (λ (k : ℕ). replicate k (num 0)) l32;
+          zero64 = z64 ∙ ap (λ (k : ℕ). replicate k (num 0)) (l64 ∙ in-length);
+          output = o ∙ ap (given out run) answered;
+        }
+
+    pub begun-joined : (j : Joined) (last : List Float) → a ≡ answer.Joined j → last ≡ take (job .poses * 12) mid64 → Begun job (linksIn job ends edges blocks) poses w32 w64 out a last32 last64 last
+    begun-joined j last q o = ends-with last (o ∙ come-to ∙ ap (given out run) (sym q))
+
+    pub begun-refused : (r : Refusal) (last : List Float) → a ≡ answer.Refused r → last ≡ out → Begun job (linksIn job ends edges blocks) poses w32 w64 out a last32 last64 last
+    begun-refused r last q o = ends-with last (o ∙ ap (given out run) (sym q))

@@ -1,0 +1,107 @@
+use borrow.Author.Tests.{not-true, not-false}
+use denote.Ref.{now}
+use Rattle.sparse_pgo.proofs.Evaluating.{trial-unmoved, trial-priced, trial-unpriced}
+use borrow.Author.Needs.{needs}
+use Rattle.sparse_pgo.proofs.evaluate_trial.Statement.{statement}
+use Rattle.sparse_pgo.proofs.evaluate_trial.Tie as tie
+
+mul-at : tie.Need-mul-at
+mul-at c = search needs
+
+add-at : tie.Need-add-at
+add-at c = search needs
+
+add-at-2 : tie.Need-add-at-2
+add-at-2 c = search needs
+
+mul-retract-free : tie.Need-mul-retract-free
+mul-retract-free c = search needs
+
+sub-retract-free : tie.Need-sub-retract-free
+sub-retract-free c = search needs
+
+part-retract-free-start : tie.Need-part-retract-free-start
+part-retract-free-start c = search needs
+
+part-retract-free-end : tie.Need-part-retract-free-end
+part-retract-free-end c = search needs
+
+retract-free-requires : tie.Need-retract-free-requires
+retract-free-requires c κs = search needs
+
+same-length : tie.Need-same-length
+same-length c = search needs
+
+returns : tie.Need-returns
+returns c =
+    let a = c .before .before .before .before .before .before .before .before .before .before .args in trial-unmoved (a .job) (now (a .ends)) (now (a .edges)) (now (a .blocks)) (a .cost) (now (a .w32)) (now (a .w64)) _ _ (c .before .before .before .retract-free .ensures) (not-true _ (c .if1 .taken))
+
+mul-half : tie.Need-mul-half
+mul-half c = search needs
+
+mul-active-total-squared-residual-cost : tie.Need-mul-active-total-squared-residual-cost
+mul-active-total-squared-residual-cost c = search needs
+
+sub-active-total-squared-residual-cost : tie.Need-sub-active-total-squared-residual-cost
+sub-active-total-squared-residual-cost c = search needs
+
+part-active-total-squared-residual-cost-start :
+    tie.Need-part-active-total-squared-residual-cost-start
+part-active-total-squared-residual-cost-start c = search needs
+
+part-active-total-squared-residual-cost-end : tie.Need-part-active-total-squared-residual-cost-end
+part-active-total-squared-residual-cost-end c = search needs
+
+active-total-squared-residual-cost-requires : tie.Need-active-total-squared-residual-cost-requires
+active-total-squared-residual-cost-requires c κs = search needs
+
+enum-known-found : tie.Need-enum-known-found
+enum-known-found c = search needs
+
+judge-requires : tie.Need-judge-requires
+judge-requires c κs = search needs
+
+enum-told : tie.Need-enum-told
+enum-told c = search needs
+
+same-length-2 : tie.Need-same-length-2
+same-length-2 c = search needs
+
+returns-2 : tie.Need-returns-2
+returns-2 c =
+    let a = c .before .before .before .before .before .before .before .before .before .before .before .before .before .before .before .before .before .before .args in trial-priced (a .job) (now (a .ends)) (now (a .edges)) (now (a .blocks)) (a .cost) (now (a .w32)) (now (a .w64)) _ _ (c .before .before .before .before .before .before .before .before .before .before .before .retract-free .ensures) (not-false _ (c .before .before .before .before .before .before .before .before .if1 .left)) _ (c .before .before .before .before .active-total-squared-residual-cost .ensures) _ _ (c .before .before .found .given .1) (c .judge .ensures)
+
+same-length-3 : tie.Need-same-length-3
+same-length-3 c = search needs
+
+returns-3 : tie.Need-returns-3
+returns-3 c =
+    let a = c .before .before .before .before .before .before .before .before .before .before .before .before .before .before .before .before .args in trial-unpriced (a .job) (now (a .ends)) (now (a .edges)) (now (a .blocks)) (a .cost) (now (a .w32)) (now (a .w64)) _ _ (c .before .before .before .before .before .before .before .before .before .retract-free .ensures) (not-false _ (c .before .before .before .before .before .before .if1 .left)) _ (c .before .before .active-total-squared-residual-cost .ensures) _ _ (c .enum-told .given .1)
+
+pub evaluate-trial-spec : {M : Type 1} → statement M
+evaluate-trial-spec =
+    tie.close
+    (tie.spec
+    mul-at
+    add-at
+    add-at-2
+    mul-retract-free
+    sub-retract-free
+    part-retract-free-start
+    part-retract-free-end
+    retract-free-requires
+    same-length
+    returns
+    mul-half
+    mul-active-total-squared-residual-cost
+    sub-active-total-squared-residual-cost
+    part-active-total-squared-residual-cost-start
+    part-active-total-squared-residual-cost-end
+    active-total-squared-residual-cost-requires
+    enum-known-found
+    judge-requires
+    enum-told
+    same-length-2
+    returns-2
+    same-length-3
+    returns-3)

@@ -1,0 +1,26 @@
+use Rattle.sparse_pgo.proofs.Settling.{solves-again}
+use mathlib.Core.Path.{_∙_}
+use denote.Ref.{now}
+use borrow.Author.Needs.{needs}
+use Rattle.sparse_pgo.proofs.solve_again.Statement.{statement}
+use Rattle.sparse_pgo.proofs.solve_again.Tie as tie
+
+attempt-requires : tie.Need-attempt-requires
+attempt-requires c κs = search needs
+
+settle-requires : tie.Need-settle-requires
+settle-requires c κs = search needs
+
+same-length : tie.Need-same-length
+same-length c = search needs
+
+same-length-2 : tie.Need-same-length-2
+same-length-2 c = search needs
+
+returns : tie.Need-returns
+returns c =
+    let a = c .before .before .before .before .before .before .before .before .before .before .before .before .before .before .before .args in let p = c .before .before .before .before .before .before .before .before .before .before .before .before .before .before .before .pre in solves-again (a .job) (now (a .ends)) (now (a .edges)) (now (a .blocks)) (a .s) (now (a .w64)) _ _ _ _ _ (c .before .before .before .before .before .before .before .before .attempt .ensures) (c .before .before .settle .ensures) (c .before .before .before .before .before .before .before .before .attempt .kept .1 .1 .1 .1 .1 .0 ∙ p .0 .single)
+
+pub solve-again-spec : {M : Type 1} → statement M
+solve-again-spec =
+    tie.close (tie.spec attempt-requires settle-requires same-length same-length-2 returns)

@@ -1,0 +1,76 @@
+use Rattle.sparse_pgo.proofs.Running.{counts-fit, start-bad, start-goes}
+use lib.Ieee.{binary32, fits}
+use lib.Seq.{length-take-le}
+use lib.Dec.{T}
+use native.Mathlib.Omega.{arith}
+use mathlib.Core.Path.{sym}
+use denote.Ref.{now}
+use borrow.Author.Needs.{needs}
+use Rattle.sparse_pgo.proofs.started.Statement.{statement}
+use Rattle.sparse_pgo.proofs.started.Tie as tie
+
+mul-half : tie.Need-mul-half
+mul-half c = search needs
+
+slice-reshare-prefix-active-total-squared-residual-cost :
+    tie.Need-slice-reshare-prefix-active-total-squared-residual-cost
+slice-reshare-prefix-active-total-squared-residual-cost c = search needs
+
+slice-aggregate-active-total-squared-residual-cost :
+    tie.Need-slice-aggregate-active-total-squared-residual-cost
+slice-aggregate-active-total-squared-residual-cost c =
+    let d = c .before .before .before .before .before .before .pre .0 .0 .double in sym (length-take-le _ _ (omega arith))
+
+active-total-squared-residual-cost-requires : tie.Need-active-total-squared-residual-cost-requires
+active-total-squared-residual-cost-requires c κs = search needs
+
+enum-known-found : tie.Need-enum-known-found
+enum-known-found c = search needs
+
+enum-known-found-2 : tie.Need-enum-known-found-2
+enum-known-found-2 c = search needs
+
+iterate-requires : tie.Need-iterate-requires
+iterate-requires c κs = search needs
+
+is-f32 : (c : tie.Start) → T (fits binary32 (c .args .job .settings .damping))
+is-f32 c = search needs
+
+answer-of-requires : tie.Need-answer-of-requires
+answer-of-requires c κs =
+    let a = c .before .before .before .before .before .before .before .before .before .before .before .before .before .before .before .before .before .args in let p = c .before .before .before .before .before .before .before .before .before .before .before .before .before .before .before .before .before .pre in counts-fit (a .job) (now (a .ends)) (now (a .edges)) (now (a .blocks)) (now (a .w64)) _ _ _ (p .0 .1) (is-f32 (c .before .before .before .before .before .before .before .before .before .before .before .before .before .before .before .before .before)) (c .before .before .before .before .iterate .ensures)
+
+same-length : tie.Need-same-length
+same-length c = search needs
+
+returns : tie.Need-returns
+returns c =
+    let a = c .before .before .before .before .before .before .before .before .before .before .args in let p = c .before .before .before .before .before .before .before .before .before .before .pre in start-bad (a .job) (now (a .ends)) (now (a .edges)) (now (a .blocks)) (now (a .w64)) _ (c .before .before .before .active-total-squared-residual-cost .ensures) _ _ (c .before .found .given .1)
+
+same-length-2 : tie.Need-same-length-2
+same-length-2 c = search needs
+
+same-length-3 : tie.Need-same-length-3
+same-length-3 c = search needs
+
+returns-2 : tie.Need-returns-2
+returns-2 c =
+    let a = c .before .before .before .before .before .before .before .before .before .before .before .before .before .before .before .before .before .before .args in let p = c .before .before .before .before .before .before .before .before .before .before .before .before .before .before .before .before .before .before .pre in start-goes (a .job) (now (a .ends)) (now (a .edges)) (now (a .blocks)) (now (a .w64)) _ (c .before .before .before .before .before .before .before .before .before .before .before .active-total-squared-residual-cost .ensures) _ _ _ _ (c .before .before .before .before .before .before .before .before .before .found2 .given .1) (c .before .before .before .before .before .iterate .ensures) (c .answer-of .ensures)
+
+pub started-spec : {M : Type 1} → statement M
+started-spec =
+    tie.close
+    (tie.spec
+    mul-half
+    slice-reshare-prefix-active-total-squared-residual-cost
+    slice-aggregate-active-total-squared-residual-cost
+    active-total-squared-residual-cost-requires
+    enum-known-found
+    enum-known-found-2
+    iterate-requires
+    answer-of-requires
+    same-length
+    returns
+    same-length-2
+    same-length-3
+    returns-2)

@@ -1,0 +1,4 @@
+pub mod Parts
+pub mod Numerics
+pub mod Optimize
+pub mod Turns

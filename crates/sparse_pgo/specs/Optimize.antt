@@ -1,0 +1,52 @@
+-- What a run answers, and what it leaves in every lent number, for every input: document 01, "Numbers lent and given back", "What is turned down". Definitions only.
+use Prim.Native.Nat.{ℕ, _+_, _*_}
+use mathlib.Core.List.{List, _++_}
+use lib.ListN.{length, drop, replicate}
+use lib.Ieee.{Float}
+use Rattle.numbers.specs.Notation.{num}
+use Rattle.rotations.specs.declared.Pose.{Pose}
+use Rattle.graph.specs.Graph.{freeCount}
+use Rattle.graph.specs.Lent.{Input, graphOf, dofOf}
+use Rattle.graph.specs.Table.{checks}
+use Rattle.graph.specs.declared.Checked.{Checked}
+use Rattle.graph.specs.declared.Checked.the-variants as checked
+use Rattle.residual.specs.Retraction.{unitOf}
+use Rattle.solve.specs.Work.{need}
+use Rattle.sparse_pgo.specs.Parts.{Whole, whole}
+use Rattle.sparse_pgo.specs.Numerics.{partsOf}
+use Rattle.sparse_pgo.specs.declared.Answer.{Answer}
+use Rattle.sparse_pgo.specs.declared.Answer.the-variants as answer
+
+-- the run of an input that passes the checks: the answer, and the poses that it came to
+unfoldable pub ran : Input → Whole (List Float)
+ran i = whole (partsOf (unitOf (i .manifold)) (i .settings) (graphOf i)) (i .settings) (i .poses)
+
+-- the first k numbers +0, the rest never touched
+abbrev pub zeroed : ℕ → List Float → List Float
+zeroed k w = replicate k (num 0) ++ drop k w
+
+-- the output: the poses of a success; as found where refused
+abbrev pub given : List Float → Whole (List Float) → Answer → List Float
+given out w (answer.Joined j) = w .held
+given out w (answer.Refused r) = out
+
+-- an answer, and the final contents of work32, work64 and the output
+pub record After : Type 0 where
+  pub answer : Answer
+  pub work32 : List Float
+  pub work64 : List Float
+  pub out : List Float
+
+abbrev pub afterChecks : Input → List Float → List Float → List Float → Checked → After
+afterChecks i work32 work64 out (checked.Turned r) = record { answer = answer.Refused r; work32 = work32; work64 = work64; out = out }
+afterChecks i work32 work64 out (checked.Fit c) =
+    record {
+      answer = ran i .answer;
+      work32 = zeroed (need (dofOf (i .manifold) * freeCount (graphOf i))) work32;
+      work64 = zeroed (24 * graphOf i .poses) work64;
+      out = given out (ran i) (ran i .answer);
+    }
+
+-- refusals 1 to 19 change no lent number; a run that began leaves the needed work +0
+unfoldable pub optimized : Input → List Float → List Float → List Float → After
+optimized i work32 work64 out = afterChecks i work32 work64 out (checks i .answer)
