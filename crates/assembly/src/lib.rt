@@ -11,12 +11,16 @@ ghost use Rattle.graph.specs.Lent.{dofOf, poseAt, lentLinks};
 ghost use Rattle.graph.specs.declared.Slot.the-variants.{Block};
 ghost use Rattle.assembly.specs.Jacobians.{movedResidual, slope, slopeVec, derivative, columnOf, putSix, codeOf, wentOf, jacobianOf};
 ghost use Rattle.assembly.specs.Assembly.{dotOf, dotWith, addTo, gradientOf, entryOf, rowOf, blockOf, endOf, crossOf, endsOf, oneOf, bothOf, edgeOf, addAt, assembledOf};
-
-use graph::{Edge, Manifold, Slot};
-use numbers::{Failure, Went};
+use graph::Edge;
+use graph::Manifold;
+use graph::Slot;
+use numbers::Failure;
+use numbers::Went;
 use pose_conversion::Restored;
 use residual::Residual;
-use rotations::{Pose, Twist, Vec3F32};
+use rotations::Pose;
+use rotations::Twist;
+use rotations::Vec3F32;
 
 const NUM_JACOBIAN_EPS: f32 = 0.001;
 
@@ -36,7 +40,14 @@ pub enum Assembled {
 // ---- Jacobians
 
 // The residual with one end moved by delta.
-fn moved_residual(m: Manifold, a: Pose, b: Pose, edge: Edge, end: EdgeEndpoint, delta: [f32; 6]) -> Residual
+fn moved_residual(
+    m: Manifold,
+    a: Pose,
+    b: Pose,
+    edge: Edge,
+    end: EdgeEndpoint,
+    delta: [f32; 6],
+) -> Residual
     ensures { λ r. ⌜ r ≡ movedResidual m a b edge end delta ⌝ }
 {
     match end {
@@ -137,7 +148,14 @@ fn went_of(code: u32) -> Went
 }
 
 // Six rows of DOF numbers, filled column by column; `code` says whether all could be had.
-fn edge_endpoint_jacobian(m: Manifold, a: Pose, b: Pose, edge: Edge, end: EdgeEndpoint, code: &mut u32) -> [[f32; 6]; 6]
+fn edge_endpoint_jacobian(
+    m: Manifold,
+    a: Pose,
+    b: Pose,
+    edge: Edge,
+    end: EdgeEndpoint,
+    code: &mut u32,
+) -> [[f32; 6]; 6]
     ensures { λ r. ⌜ (now (code .exit) ≡ codeOf (jacobianOf m a b edge end .0)) × (r ≡ jacobianOf m a b edge end .1) ⌝ }
 {
     let mut j = [[0.0f32; 6]; 6];
@@ -206,7 +224,16 @@ fn accumulate_gradient(part: &mut [f32], dof: usize, j: &[[f32; 6]; 6], r: &[f32
 }
 
 // One entry of the Hessian, if it stands in the lower triangle.
-fn add_entry(w: &mut [f32], n: usize, row: usize, col: usize, jr: &[[f32; 6]; 6], r: usize, jc: &[[f32; 6]; 6], c: usize) -> Went
+fn add_entry(
+    w: &mut [f32],
+    n: usize,
+    row: usize,
+    col: usize,
+    jr: &[[f32; 6]; 6],
+    r: usize,
+    jc: &[[f32; 6]; 6],
+    c: usize,
+) -> Went
     requires { ⌜ (row < n) × (col < n) × (need n ≤ length (now w)) × (r < 6) × (c < 6) ⌝ }
     ensures { λ went. ⌜ (went, now (w .exit)) ≡ entryOf n row col (now (jr .entry)) r (now (jc .entry)) c (now (w .entry)) ⌝ }
 {
@@ -218,7 +245,16 @@ fn add_entry(w: &mut [f32], n: usize, row: usize, col: usize, jr: &[[f32; 6]; 6]
 }
 
 // Row r of the block of rows rb and columns cb.
-fn accumulate_row(w: &mut [f32], n: usize, dof: usize, rb: usize, cb: usize, jr: &[[f32; 6]; 6], jc: &[[f32; 6]; 6], r: usize) -> Went
+fn accumulate_row(
+    w: &mut [f32],
+    n: usize,
+    dof: usize,
+    rb: usize,
+    cb: usize,
+    jr: &[[f32; 6]; 6],
+    jc: &[[f32; 6]; 6],
+    r: usize,
+) -> Went
     requires { ⌜ (rb * dof + dof ≤ n) × (cb * dof + dof ≤ n) × (need n ≤ length (now w)) × (dof ≤ 6) × (r < dof) ⌝ }
     ensures { λ went. ⌜ (went, now (w .exit)) ≡ rowOf n dof rb cb (now (jr .entry)) (now (jc .entry)) r (now (w .entry)) ⌝ }
 {
@@ -231,7 +267,15 @@ fn accumulate_row(w: &mut [f32], n: usize, dof: usize, rb: usize, cb: usize, jr:
 }
 
 // The block of rows rb and columns cb, row by row.
-fn accumulate_hessian(w: &mut [f32], n: usize, dof: usize, rb: usize, cb: usize, jr: &[[f32; 6]; 6], jc: &[[f32; 6]; 6]) -> Went
+fn accumulate_hessian(
+    w: &mut [f32],
+    n: usize,
+    dof: usize,
+    rb: usize,
+    cb: usize,
+    jr: &[[f32; 6]; 6],
+    jc: &[[f32; 6]; 6],
+) -> Went
     requires { ⌜ (rb * dof + dof ≤ n) × (cb * dof + dof ≤ n) × (need n ≤ length (now w)) × (dof ≤ 6) ⌝ }
     ensures { λ went. ⌜ (went, now (w .exit)) ≡ blockOf n dof rb cb (now (jr .entry)) (now (jc .entry)) (now (w .entry)) ⌝ }
 {
@@ -256,7 +300,15 @@ fn add_end(w: &mut [f32], n: usize, dof: usize, b: usize, j: &[[f32; 6]; 6], r: 
 }
 
 // The cross block stands below the diagonal: where a's block is smaller, rows come from b's Jacobian.
-fn add_cross(w: &mut [f32], n: usize, dof: usize, ba: usize, bb: usize, ja: &[[f32; 6]; 6], jb: &[[f32; 6]; 6]) -> Went
+fn add_cross(
+    w: &mut [f32],
+    n: usize,
+    dof: usize,
+    ba: usize,
+    bb: usize,
+    ja: &[[f32; 6]; 6],
+    jb: &[[f32; 6]; 6],
+) -> Went
     requires { ⌜ (ba * dof + dof ≤ n) × (bb * dof + dof ≤ n) × (need n ≤ length (now w)) × (dof ≤ 6) ⌝ }
     ensures { λ went. ⌜ (went, now (w .exit)) ≡ crossOf n dof ba bb (now (ja .entry)) (now (jb .entry)) (now (w .entry)) ⌝ }
 {
@@ -267,7 +319,16 @@ fn add_cross(w: &mut [f32], n: usize, dof: usize, ba: usize, bb: usize, ja: &[[f
 }
 
 // Two free ends: a, then b, then the cross block.
-fn add_ends(w: &mut [f32], n: usize, dof: usize, i: usize, k: usize, ja: &[[f32; 6]; 6], jb: &[[f32; 6]; 6], r: &[f32; 6]) -> Went
+fn add_ends(
+    w: &mut [f32],
+    n: usize,
+    dof: usize,
+    i: usize,
+    k: usize,
+    ja: &[[f32; 6]; 6],
+    jb: &[[f32; 6]; 6],
+    r: &[f32; 6],
+) -> Went
     requires { ⌜ (i * dof + dof ≤ n) × (k * dof + dof ≤ n) × (need n ≤ length (now w)) × (dof ≤ 6) ⌝ }
     ensures { λ went. ⌜ (went, now (w .exit)) ≡ endsOf n dof i k (now (ja .entry)) (now (jb .entry)) (now (r .entry)) (now (w .entry)) ⌝ }
 {
@@ -283,7 +344,16 @@ fn add_ends(w: &mut [f32], n: usize, dof: usize, i: usize, k: usize, ja: &[[f32;
 // ---- edges
 
 // An edge with one free end.
-fn add_one(w: &mut [f32], n: usize, m: Manifold, a: Pose, b: Pose, edge: Edge, end: EdgeEndpoint, block: usize) -> Went
+fn add_one(
+    w: &mut [f32],
+    n: usize,
+    m: Manifold,
+    a: Pose,
+    b: Pose,
+    edge: Edge,
+    end: EdgeEndpoint,
+    block: usize,
+) -> Went
     requires { ⌜ (block * dofOf m + dofOf m ≤ n) × (need n ≤ length (now w)) ⌝ }
     ensures { λ went. ⌜ (went, now (w .exit)) ≡ oneOf m n a b edge end block (now (w .entry)) ⌝ }
 {
@@ -301,7 +371,16 @@ fn add_one(w: &mut [f32], n: usize, m: Manifold, a: Pose, b: Pose, edge: Edge, e
 }
 
 // An edge with two free ends.
-fn add_both(w: &mut [f32], n: usize, m: Manifold, a: Pose, b: Pose, edge: Edge, i: usize, k: usize) -> Went
+fn add_both(
+    w: &mut [f32],
+    n: usize,
+    m: Manifold,
+    a: Pose,
+    b: Pose,
+    edge: Edge,
+    i: usize,
+    k: usize,
+) -> Went
     requires { ⌜ (i * dofOf m + dofOf m ≤ n) × (k * dofOf m + dofOf m ≤ n) × (need n ≤ length (now w)) ⌝ }
     ensures { λ went. ⌜ (went, now (w .exit)) ≡ bothOf m n a b edge i k (now (w .entry)) ⌝ }
 {
@@ -323,7 +402,16 @@ fn add_both(w: &mut [f32], n: usize, m: Manifold, a: Pose, b: Pose, edge: Edge, 
 }
 
 // What an edge adds, by which of its ends are free.
-fn add_edge(w: &mut [f32], n: usize, m: Manifold, a: Pose, b: Pose, edge: Edge, sa: Slot, sb: Slot) -> Went
+fn add_edge(
+    w: &mut [f32],
+    n: usize,
+    m: Manifold,
+    a: Pose,
+    b: Pose,
+    edge: Edge,
+    sa: Slot,
+    sb: Slot,
+) -> Went
     requires { ⌜ ((i : ℕ) → sa ≡ Block i → i * dofOf m + dofOf m ≤ n) × ((i : ℕ) → sb ≡ Block i → i * dofOf m + dofOf m ≤ n) × (need n ≤ length (now w)) ⌝ }
     ensures { λ went. ⌜ (went, now (w .exit)) ≡ edgeOf m n a b edge sa sb (now (w .entry)) ⌝ }
 {
@@ -340,7 +428,17 @@ fn add_edge(w: &mut [f32], n: usize, m: Manifold, a: Pose, b: Pose, edge: Edge, 
 }
 
 // What edge k adds; nothing if it is not active.
-fn add_edge_at(w: &mut [f32], m: Manifold, poses: &[f64], ends: &[u32], edges: &[f32], blocks: &[u32; 256], free: u32, n: usize, k: usize) -> Went
+fn add_edge_at(
+    w: &mut [f32],
+    m: Manifold,
+    poses: &[f64],
+    ends: &[u32],
+    edges: &[f32],
+    blocks: &[u32; 256],
+    free: u32,
+    n: usize,
+    k: usize,
+) -> Went
     requires { ⌜ (n ≡ dofOf m * free) × (need n ≤ length (now w)) × (k < 2 ^ 62) ⌝ }
     ensures { λ went. ⌜ (went, now (w .exit)) ≡ only (isActive (lentLinks (now (ends .entry)) (now (edges .entry)) (now (blocks .entry)) free) k) (addAt m n (lentLinks (now (ends .entry)) (now (edges .entry)) (now (blocks .entry)) free) (poseAt (now (poses .entry))) k) (now (w .entry)) ⌝ }
 {
@@ -365,7 +463,15 @@ fn clear(w: &mut [f32], count: usize)
 }
 
 // Gradient and lower triangle of the Hessian, from +0, in the work of dof × free unknowns; `blocks` names the block of each pose.
-pub fn build_normal_system_with_mapping(w: &mut [f32], m: Manifold, poses: &[f64], ends: &[u32], edges: &[f32], blocks: &[u32; 256], free: u32) -> Assembled
+pub fn build_normal_system_with_mapping(
+    w: &mut [f32],
+    m: Manifold,
+    poses: &[f64],
+    ends: &[u32],
+    edges: &[f32],
+    blocks: &[u32; 256],
+    free: u32,
+) -> Assembled
     ensures { λ r. ⌜ (r, now (w .exit)) ≡ assembledOf m (dofOf m * free) (lentLinks (now (ends .entry)) (now (edges .entry)) (now (blocks .entry)) free) (poseAt (now (poses .entry))) (now (w .entry)) ⌝ }
 {
     let n = graph::dof(m) * (free as usize);
