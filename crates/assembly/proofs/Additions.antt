@@ -13,7 +13,6 @@ use borrow.Author.Tests.{lt-ltb, le-ltb, ltb-true, ltb-false, eqb-true, eqb-fals
 use Rattle.numbers.specs.Notation.{_⊞_, if-then}
 use Rattle.numbers.specs.Walks.{every, each, well, only, mustBeFinite}
 use Rattle.numbers.specs.declared.Went.{Went}
-use Rattle.numbers.specs.declared.Went.the-variants.{Well, Bad}
 use Rattle.assembly.specs.Assembly.{addTo}
 use Rattle.assembly.proofs.Rows.{told, each-told}
 

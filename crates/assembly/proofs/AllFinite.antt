@@ -1,12 +1,12 @@
 -- Where an assembly is done every number of the system is finite. Assumes nothing.
 use mathlib.Core.Path.{_≡_, refl, ap, subst, _∙_}
 use mathlib.Core.Bool.{Bool, true, false}
-use mathlib.Core.List.{List, _++_}
+use mathlib.Core.List.{List}
 use Prim.Native.Nat.{ℕ, _+_, _*_, _<_, _≤_}
 use native.Mathlib.Omega.{arith}
 use lib.Arith.{digits-lt}
 use lib.Dec.{eqb, ltb}
-use lib.ListN.{length, getD, set, drop, replicate, length-append, length-drop, length-set, length-replicate, getD-replicate, List·getD-append}
+use lib.ListN.{length, getD, set, length-set}
 use lib.Seq.{getD-set-same, getD-set-other}
 use lib.Ieee.{Float, nan}
 use lib.Ieee.Scale.{finite}
@@ -24,6 +24,7 @@ use Rattle.solve.specs.Work.{need, matrixOf, gradientOf}
 use Rattle.assembly.specs.Assembly.{addTo, cleared, assembledEnds, assembledFrom, assembledOf}
 use Rattle.assembly.specs.declared.Assembled.{Assembled}
 use Rattle.assembly.specs.declared.Assembled.the-variants as assembled
+use Rattle.assembly.proofs.Laws.{cleared-length, cleared-zero}
 use Rattle.assembly.proofs.Invariants.{Good, Over}
 use Rattle.assembly.proofs.Walked.{Fits, edges-over}
 
@@ -62,12 +63,7 @@ module _ (n : ℕ) where
       go t false e = tt
 
   start : (w : List Float) → need n ≤ length w → Finite n (cleared n w)
-  start w room =
-      record {
-        there = simp (length-append, length-replicate, length-drop) (omega arith);
-        all-finite = λ q l.
-            ap finite (List·getD-append (replicate (need n) (num 0)) (drop (need n) w) nan q (rw (length-replicate (need n) (num 0)) l) ∙ getD-replicate (need n) q (num 0) nan l) ∙ zero-finite;
-      }
+  start w room = record { there = rw (cleared-length n w room) room; all-finite = λ q l. ap finite (cleared-zero n w q l) ∙ zero-finite }
 
   module _ (m : Manifold) (l : Links Edge) (pose : ℕ → Pose) (w : List Float) (f : Fits m n l) where
     pub edges-finite : need n ≤ length w → Over (Finite n) Any (assembledEnds m n l pose w)

@@ -32,7 +32,6 @@ use Rattle.assembly.specs.Jacobians.{withSix, jacobianOf, codeOf, wentOf
 use Rattle.assembly.specs.Assembly.{endOf, crossOf, withJacobian, endsOf, oneOf, bothOf, edgeOf, addAt, cleared, assembledEnds, assembledFrom, assembledOf}
 use Rattle.assembly.specs.declared.EdgeEndpoint.{EdgeEndpoint}
 use Rattle.assembly.specs.declared.EdgeEndpoint.the-variants.{A, B}
-use Rattle.assembly.specs.declared.Assembled.{Assembled}
 use Rattle.assembly.specs.declared.Assembled.the-variants as assembled
 use Rattle.assembly.proofs.Going.{code-kept}
 

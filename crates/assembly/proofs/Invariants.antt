@@ -2,7 +2,6 @@
 use mathlib.Core.Bool.{Bool, true, false}
 use Prim.Native.Nat.{ℕ, zero, suc, _<_}
 use native.Mathlib.Omega.{arith}
-use Rattle.numbers.specs.declared.Failure.{Failure}
 use Rattle.numbers.specs.declared.Went.{Went}
 use Rattle.numbers.specs.declared.Went.the-variants.{Well, Bad}
 use Rattle.numbers.specs.Walks.{Ended, done, stopped, turn, next, each, well, only, andThen}

@@ -1,19 +1,20 @@
--- Where the numbers of a system stand, and a part of the work that is lent. Assumes nothing.
+-- Where the numbers of a system stand, a part of the work that is lent, and the work cleared. Assumes nothing.
 use mathlib.Core.Path.{_≡_, refl, ap, sym, _∙_}
 use mathlib.Core.List.{List, [], _∷_, _++_, append-nil}
 use Prim.Native.Nat.{ℕ, zero, suc, _+_, _-_, _*_, _<_, _≤_}
 use native.Mathlib.Numerals.{add-one}
 use native.Mathlib.Nat.{suc-mul, mul-le-mul-right, le-refl, not-suc-le-zero, le-of-suc-le-suc}
 use native.Mathlib.Omega.{arith}
-use lib.Ieee.{Float, ofBits, binary32}
-use lib.ListN.{length, set, replicate, take, drop, length-drop, drop-of-length-le}
-use lib.Seq.{take-all}
+use lib.Ieee.{Float, nan, ofBits, binary32}
+use lib.ListN.{length, getD, set, replicate, take, drop, length-append, length-drop, length-replicate, getD-replicate, drop-of-length-le, List·getD-append}
+use lib.Seq.{take-all, getD-drop, getD-append-add}
 use Rattle.numbers.specs.Notation.{num, ratio}
 use Rattle.numbers.specs.declared.Failure.{Failure}
 use Rattle.numbers.specs.declared.Went.{Went}
 use Rattle.numbers.specs.declared.Went.the-variants.{Well, Bad}
 use Rattle.numbers.proofs.Walking.{then-failed, then-went}
-use Rattle.assembly.specs.Assembly.{lent, gradientOf, blockOf, endOf}
+use Rattle.solve.specs.Work.{need}
+use Rattle.assembly.specs.Assembly.{lent, gradientOf, blockOf, endOf, cleared}
 
 pub in-square : (n col row : ℕ) → col < n → row < n → col * n + row < n * n
 in-square n col row h k = omega (arith, mul-le-mul-right n h, suc-mul col n)
@@ -63,3 +64,22 @@ module _ {A : Type 0} where
 pub zero-num : num 0 ≡ ofBits binary32 0
 unfolding ratio ofBits
 zero-num = refl
+
+-- ---- the work that an assembly starts from
+module _ (n : ℕ) (w : List Float) where
+  pub cleared-length : need n ≤ length w → length (cleared n w) ≡ length w
+  cleared-length h = simp (length-append, length-replicate, length-drop) (omega arith)
+
+  pub cleared-zero : (q : ℕ) → q < need n → getD (cleared n w) q nan ≡ num 0
+  cleared-zero q l =
+      List·getD-append (replicate (need n) (num 0)) (drop (need n) w) nan q (rw (length-replicate (need n) (num 0)) l)
+      ∙ getD-replicate (need n) q (num 0) nan l
+
+  pub cleared-rest : (q : ℕ) → need n ≤ q → getD (cleared n w) q nan ≡ getD w q nan
+  cleared-rest q l =
+      let e : q ≡ length (replicate (need n) (num 0)) + (q - need n) = rw (length-replicate (need n) (num 0)) (omega arith) in
+      let f : need n + (q - need n) ≡ q = omega arith in
+      ap (λ k. getD (cleared n w) k nan) e
+      ∙ getD-append-add (replicate (need n) (num 0)) (drop (need n) w) (q - need n) nan
+      ∙ getD-drop (need n) w (q - need n) nan
+      ∙ ap (λ k. getD w k nan) f

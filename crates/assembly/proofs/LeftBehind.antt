@@ -1,19 +1,18 @@
 -- What an assembly leaves in the work, done or stopped: as many numbers; past n (n + 3) those that it found; and +0 in every place that is neither
 -- in the lower triangle of H nor in the gradient, so that a solve finds its scratch and its step clear. Assumes nothing.
-use mathlib.Core.Path.{_≡_, refl, sym, ap, subst, _∙_}
+use mathlib.Core.Path.{_≡_, refl, sym, ap, _∙_}
 use mathlib.Core.Bool.{Bool, true, false}
-use mathlib.Core.List.{List, _++_}
-use Prim.Native.Nat.{ℕ, _+_, _-_, _*_, _/_, _%_, _<_, _≤_}
+use mathlib.Core.List.{List}
+use Prim.Native.Nat.{ℕ, _+_, _*_, _<_, _≤_}
 use native.Mathlib.Omega.{arith}
 use lib.Arith.{digits-div, digits-mod, digits-lt}
-use lib.Dec.{ltb, leb}
-use lib.ListN.{length, getD, set, drop, replicate, length-append, length-drop, length-set, length-replicate, getD-replicate, List·getD-append}
-use lib.Seq.{getD-drop, getD-append-add, getD-set-other}
+use lib.Dec.{ltb}
+use lib.ListN.{length, getD, set, length-set}
+use lib.Seq.{getD-set-other}
 use lib.Ieee.{Float, nan}
 use borrow.Author.Tests.{lt-ltb, le-ltb, le-leb, ltb-true, ltb-false}
 use Rattle.numbers.specs.Notation.{_⊞_, num, if-then}
 use Rattle.numbers.specs.Walks.{Ended, done, stopped, mustBeFinite}
-use Rattle.numbers.specs.declared.Failure.{Failure}
 use Rattle.numbers.specs.declared.Went.{Went}
 use Rattle.numbers.specs.declared.Went.the-variants.{Well, Bad}
 use Rattle.numbers.proofs.Choices.{taken, left}
@@ -25,7 +24,7 @@ use Rattle.graph.specs.declared.Manifold.{Manifold}
 use Rattle.solve.specs.Rule.{nothing}
 use Rattle.solve.specs.Work.{need, Place, kept, scratch, stepAt, placeOf, after, workAfter}
 use Rattle.assembly.specs.Assembly.{addTo, cleared, assembledEnds, assembledFrom, assembledOf}
-use Rattle.assembly.specs.declared.Assembled.the-variants as assembled
+use Rattle.assembly.proofs.Laws.{cleared-length, cleared-zero, cleared-rest}
 use Rattle.assembly.proofs.Invariants.{Good, Over}
 use Rattle.assembly.proofs.Walked.{Fits, edges-over}
 
@@ -77,16 +76,9 @@ module _ (n : ℕ) (w : List Float) where
     start-clean : Clean n w (cleared n w)
     start-clean =
         record {
-          same-length = simp (length-append, length-replicate, length-drop) (omega arith);
-          rest-as-found = λ q l.
-              let e : q ≡ length (replicate (need n) (num 0)) + (q - need n) = rw (length-replicate (need n) (num 0)) (omega arith) in
-              let f : need n + (q - need n) ≡ q = omega arith in
-              ap (λ k. getD (cleared n w) k nan) e ∙ getD-append-add (replicate (need n) (num 0)) (drop (need n) w) (q - need n) nan
-              ∙ getD-drop (need n) w (q - need n) nan ∙ ap (λ k. getD w k nan) f;
-          others-zero = λ q o.
-              let l : q < need n = below q (ltb q (need n)) refl o in
-              List·getD-append (replicate (need n) (num 0)) (drop (need n) w) nan q (rw (length-replicate (need n) (num 0)) l)
-              ∙ getD-replicate (need n) q (num 0) nan l;
+          same-length = cleared-length n w room;
+          rest-as-found = cleared-rest n w;
+          others-zero = λ q o. cleared-zero n w q (below q (ltb q (need n)) refl o);
         }
       where
         below : (q : ℕ) (t : Bool) → ltb q (need n) ≡ t → (placeOf n q ≡ kept → ⊥) → q < need n

@@ -9,3 +9,4 @@ pub mod SameEdges
 pub mod Products
 pub mod Rows
 pub mod Additions
+pub mod WholeBlocks

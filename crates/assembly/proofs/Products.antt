@@ -1,10 +1,10 @@
 -- Products and sums of products are the same in either order. Assumes nothing.
-use mathlib.Core.Path.{_≡_, refl, ap, ap₂, fun-ext, _∙_}
+use mathlib.Core.Path.{_≡_, refl, ap, fun-ext}
 use mathlib.Core.Bool.{Bool, true, false}
 use mathlib.Core.List.{List}
 use Prim.Native.Nat.{ℕ, _*_}
 use native.Mathlib.Nat.{mul-comm}
-use lib.Ieee.{Float, nan, inf, fin, Format, binary32, up, down, unlike, round, mul}
+use lib.Ieee.{Float, nan, inf, fin, Format, binary32, up, down, unlike, mul}
 use Rattle.numbers.specs.Walks.{sumOf}
 use Rattle.assembly.specs.Jacobians.{cell}
 use Rattle.assembly.specs.Assembly.{dotOf}

@@ -11,7 +11,7 @@ use Rattle.graph.specs.Graph.{Links, isBlock, isActive}
 use Rattle.graph.specs.declared.Edge.{Edge}
 use Rattle.graph.specs.declared.Manifold.{Manifold}
 use Rattle.graph.specs.declared.Slot.{Slot}
-use Rattle.assembly.specs.Assembly.{edgeOf, addAt, cleared, assembledEnds, assembledFrom, assembledOf}
+use Rattle.assembly.specs.Assembly.{edgeOf, addAt, cleared, assembledEnds, assembledOf}
 
 -- the same edges between the same poses; pose numbers may differ
 pub record Same (l l' : Links Edge) (pose pose' : ℕ → Pose) : Type 0 where

@@ -1,32 +1,31 @@
 -- What holds through every addition to a place of the system holds of the work that an assembly leaves. Assumes nothing.
-use mathlib.Core.Path.{_≡_, refl, sym, ap, subst, _∙_}
+use mathlib.Core.Path.{_≡_, refl, ap, _∙_}
 use mathlib.Core.Bool.{Bool, true, false}
-use mathlib.Core.List.{List, [], _∷_, _++_}
+use mathlib.Core.List.{List, _++_}
 use Prim.Native.Nat.{ℕ, zero, suc, _+_, _*_, _<_, _≤_}
 use native.Mathlib.Nat.{add-assoc}
 use native.Mathlib.Omega.{arith}
 use lib.Dec.{ltb, leb}
-use lib.ListN.{length, getD, set, take, drop, take-append-drop}
-use lib.Seq.{take-append-le, getD-drop, take-set-le, drop-set-add}
+use lib.ListN.{take, drop, take-append-drop}
+use lib.Seq.{getD-drop, take-set-le, drop-set-add}
 use lib.Ieee.{Float, nan}
 use borrow.Author.Tests.{leb-true}
 use Rattle.numbers.specs.Notation.{if-then}
-use Rattle.numbers.specs.Walks.{Ended, done, stopped, turn, next, each, well, only, andThen, mustBeFinite}
-use Rattle.numbers.specs.declared.Failure.{Failure}
+use Rattle.numbers.specs.Walks.{Ended, done, stopped, turn, next, each, well, only}
 use Rattle.numbers.specs.declared.Went.{Went}
 use Rattle.numbers.specs.declared.Went.the-variants.{Well, Bad}
 use Rattle.rotations.specs.declared.Twist.{Twist}
 use Rattle.rotations.specs.declared.Pose.{Pose}
 use Rattle.graph.specs.Graph.{Links, isActive}
-use Rattle.graph.specs.Lent.{dofOf, slotIn, lentLinks}
+use Rattle.graph.specs.Lent.{dofOf, lentLinks}
 use Rattle.graph.specs.declared.Edge.{Edge}
 use Rattle.graph.specs.declared.Manifold.{Manifold}
 use Rattle.graph.specs.declared.Slot.{Slot}
 use Rattle.graph.specs.declared.Slot.the-variants.{Block, Fixed}
-use Rattle.residual.specs.Residuals.{residualOf, sixOf}
+use Rattle.residual.specs.Residuals.{sixOf}
 use Rattle.residual.specs.declared.Residual.{Residual}
 use Rattle.residual.specs.declared.Residual.the-variants.{Six, Failed}
-use Rattle.assembly.specs.Jacobians.{withSix, jacobianOf}
+use Rattle.assembly.specs.Jacobians.{withSix}
 use Rattle.assembly.specs.Assembly.{dotWith, dotOf, addTo, gradientOf, lent, entryOf, rowOf, blockOf, endOf, crossOf, withJacobian, endsOf, oneOf, bothOf, edgeOf, addAt, cleared, assembledEnds}
 use Rattle.assembly.specs.declared.EdgeEndpoint.{EdgeEndpoint}
 use Rattle.assembly.specs.declared.EdgeEndpoint.the-variants.{A, B}

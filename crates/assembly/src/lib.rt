@@ -1,4 +1,5 @@
 // Assembly: the Jacobians of an edge, and what it adds to the gradient and to the lower triangle of the Hessian (build_normal_system_with_mapping).
+// The system of n unknowns stands in solve's layout: H(i,j), j ≤ i, at j n + i; the gradient at n n + n + i.
 ghost use mathlib.Core.Path.{_≡_};
 ghost use Prim.Native.Nat.{ℕ, _+_, _*_, _^_, _<_, _≤_};
 ghost use mathlib.Core.List.{_++_};
@@ -22,6 +23,7 @@ use rotations::Pose;
 use rotations::Twist;
 use rotations::Vec3F32;
 
+// A pose is moved so far to each side, in its own units along each axis.
 const NUM_JACOBIAN_EPS: f32 = 0.001;
 
 // The end of an edge that a Jacobian is of.
@@ -93,7 +95,7 @@ fn derivative_of(p: Twist, q: Twist) -> Residual
     }
 }
 
-// The six derivatives along axis c.
+// The six derivatives along axis c: (r(+0.001) − r(−0.001)) / (2 × 0.001), all f32.
 fn column(m: Manifold, a: Pose, b: Pose, edge: Edge, end: EdgeEndpoint, c: usize) -> Residual
     requires { ⌜ c < 6 ⌝ }
     ensures { λ r. ⌜ r ≡ columnOf m a b edge end c ⌝ }
@@ -138,6 +140,7 @@ fn code_of(went: Went) -> u32
     }
 }
 
+// What was said, from such a number.
 fn went_of(code: u32) -> Went
     ensures { λ r. ⌜ r ≡ wentOf code ⌝ }
 {
@@ -175,7 +178,7 @@ fn edge_endpoint_jacobian(
 
 // ---- what is added
 
-// Column i of a times column j of b.
+// Column i of a times column j of b: six products in residual order, from +0.
 fn dot(a: &[[f32; 6]; 6], i: usize, b: &[[f32; 6]; 6], j: usize) -> f32
     requires { ⌜ (i < 6) × (j < 6) ⌝ }
     ensures { λ r. ⌜ r ≡ dotOf (now (a .entry)) i (now (b .entry)) j ⌝ }
@@ -209,7 +212,7 @@ fn add_to(w: &mut [f32], at: usize, v: f32) -> Went
     numbers::must_be_finite(s)
 }
 
-// A pose's part of the gradient.
+// A pose's gradient, in the part of the work that starts at its block.
 fn accumulate_gradient(part: &mut [f32], dof: usize, j: &[[f32; 6]; 6], r: &[f32; 6]) -> Went
     requires { ⌜ (dof ≤ 6) × (dof ≤ length (now part)) ⌝ }
     ensures { λ went. ⌜ (went, now (part .exit)) ≡ gradientOf dof (now (j .entry)) (now (r .entry)) (now (part .entry)) ⌝ }

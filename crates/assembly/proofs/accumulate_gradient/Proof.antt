@@ -8,10 +8,6 @@ use Rattle.assembly.specs.Assembly.{dotWith, addTo, gradientOf}
 use borrow.Author.Needs.{needs}
 use Rattle.assembly.proofs.accumulate_gradient.Statement.{statement}
 use Rattle.assembly.proofs.accumulate_gradient.Tie as tie
-use Rattle.assembly.proofs.accumulate_gradient.Reads as reads
-use Rattle.assembly.proofs.accumulate_gradient.Lts as lts
-use Rattle.assembly.proofs.add_to.Reads as add-to-reads
-use Rattle.assembly.proofs.dot_with.Reads as dot-with-reads
 
 abbrev Inv-loop : tie.InvT-loop
 Inv-loop part₀ dof j r c₀ part c = (c ≤ dof) × (length part ≡ length part₀) × (each (λ c part. addTo part c (dotWith j c r)) c part₀ ≡ done part)
@@ -19,28 +15,22 @@ Inv-loop part₀ dof j r c₀ part c = (c ≤ dof) × (length part ≡ length pa
 abbrev μ-loop : tie.MeasureT-loop
 μ-loop part₀ dof j r c₀ part c = dof - c
 
--- src/lib.rt:64:5
 loop-holds : tie.Need-loop-holds Inv-loop μ-loop
 unfolding each
 loop-holds c = search needs
 
--- src/lib.rt:65:13
 dot-with-requires : tie.Need-dot-with-requires Inv-loop μ-loop
 dot-with-requires c κs = search needs
 
--- src/lib.rt:66:33
 add-to-requires : tie.Need-add-to-requires Inv-loop μ-loop
 add-to-requires c κs = search needs
 
--- src/lib.rt:66:26
 enum-known-why : tie.Need-enum-known-why Inv-loop μ-loop
 enum-known-why c = search needs
 
--- src/lib.rt:67:13
 same-length : tie.Need-same-length Inv-loop μ-loop
 same-length c = search needs
 
--- src/lib.rt:67:13
 returns : tie.Need-returns Inv-loop μ-loop
 unfolding gradientOf
 returns c = let l = c .before .before .before .before .before .before .before .before .before .loop in each-early _ _ _ _ (l .inv .2) (cc) (c .before .before .before .before .before .before .before .before .loop-test .taken)
@@ -48,23 +38,18 @@ returns c = let l = c .before .before .before .before .before .before .before .b
 enum-told : tie.Need-enum-told Inv-loop μ-loop
 enum-told c = search needs
 
--- src/lib.rt:64:9
 add-c : tie.Need-add-c Inv-loop μ-loop
 add-c c = search needs
 
--- src/lib.rt:64:5
 loop-less : tie.Need-loop-less Inv-loop μ-loop
 loop-less c = search needs
 
--- src/lib.rt:64:5
 loop-again : tie.Need-loop-again Inv-loop μ-loop
 loop-again c = let l = c .before .before .before .before .before .before .before .before .loop in (omega arith, omega arith, each-more _ _ _ (l .inv .2) (cc))
 
--- src/lib.rt:60:1
 same-length-2 : tie.Need-same-length-2 Inv-loop μ-loop
 same-length-2 c = search needs
 
--- src/lib.rt:60:1
 returns-2 : tie.Need-returns-2 Inv-loop μ-loop
 unfolding gradientOf
 returns-2 c = let l = c .before .loop in each-all _ _ _ _ (l .inv .2) (omega arith)

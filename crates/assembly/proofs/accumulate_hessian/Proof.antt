@@ -8,9 +8,6 @@ use Rattle.assembly.specs.Assembly.{rowOf, blockOf}
 use borrow.Author.Needs.{needs}
 use Rattle.assembly.proofs.accumulate_hessian.Statement.{statement}
 use Rattle.assembly.proofs.accumulate_hessian.Tie as tie
-use Rattle.assembly.proofs.accumulate_hessian.Reads as reads
-use Rattle.assembly.proofs.accumulate_hessian.Lts as lts
-use Rattle.assembly.proofs.accumulate_row.Reads as accumulate-row-reads
 
 abbrev Inv-loop : tie.InvT-loop
 Inv-loop w₀ n dof rb cb jr jc r₀ w r = (r ≤ dof) × (length w ≡ length w₀) × (each (rowOf n dof rb cb jr jc) r w₀ ≡ done w)
@@ -18,24 +15,19 @@ Inv-loop w₀ n dof rb cb jr jc r₀ w r = (r ≤ dof) × (length w ≡ length w
 abbrev μ-loop : tie.MeasureT-loop
 μ-loop w₀ n dof rb cb jr jc r₀ w r = dof - r
 
--- src/lib.rt:103:5
 loop-holds : tie.Need-loop-holds Inv-loop μ-loop
 unfolding each
 loop-holds c = search needs
 
--- src/lib.rt:104:33
 accumulate-row-requires : tie.Need-accumulate-row-requires Inv-loop μ-loop
 accumulate-row-requires c κs = search needs
 
--- src/lib.rt:104:26
 enum-known-why : tie.Need-enum-known-why Inv-loop μ-loop
 enum-known-why c = search needs
 
--- src/lib.rt:105:13
 same-length : tie.Need-same-length Inv-loop μ-loop
 same-length c = search needs
 
--- src/lib.rt:105:13
 returns : tie.Need-returns Inv-loop μ-loop
 unfolding blockOf
 returns c = let l = c .before .before .before .before .before .before .before .before .loop in each-early _ _ _ _ (l .inv .2) (cc) (c .before .before .before .before .before .before .before .loop-test .taken)
@@ -43,23 +35,18 @@ returns c = let l = c .before .before .before .before .before .before .before .b
 enum-told : tie.Need-enum-told Inv-loop μ-loop
 enum-told c = search needs
 
--- src/lib.rt:103:9
 add-r : tie.Need-add-r Inv-loop μ-loop
 add-r c = search needs
 
--- src/lib.rt:103:5
 loop-less : tie.Need-loop-less Inv-loop μ-loop
 loop-less c = search needs
 
--- src/lib.rt:103:5
 loop-again : tie.Need-loop-again Inv-loop μ-loop
 loop-again c = let l = c .before .before .before .before .before .before .before .loop in (omega arith, omega arith, each-more _ _ _ (l .inv .2) (cc))
 
--- src/lib.rt:99:1
 same-length-2 : tie.Need-same-length-2 Inv-loop μ-loop
 same-length-2 c = search needs
 
--- src/lib.rt:99:1
 returns-2 : tie.Need-returns-2 Inv-loop μ-loop
 unfolding blockOf
 returns-2 c = let l = c .before .loop in each-all _ _ _ _ (l .inv .2) (omega arith)

@@ -8,9 +8,6 @@ use Rattle.assembly.specs.Assembly.{entryOf, rowOf}
 use borrow.Author.Needs.{needs}
 use Rattle.assembly.proofs.accumulate_row.Statement.{statement}
 use Rattle.assembly.proofs.accumulate_row.Tie as tie
-use Rattle.assembly.proofs.accumulate_row.Reads as reads
-use Rattle.assembly.proofs.accumulate_row.Lts as lts
-use Rattle.assembly.proofs.add_entry.Reads as add-entry-reads
 
 abbrev Inv-loop : tie.InvT-loop
 Inv-loop w₀ n dof rb cb jr jc r c₀ w c = (c ≤ dof) × (length w ≡ length w₀) × (each (λ c. entryOf n (rb * dof + r) (cb * dof + c) jr r jc c) c w₀ ≡ done w)
@@ -18,40 +15,31 @@ Inv-loop w₀ n dof rb cb jr jc r c₀ w c = (c ≤ dof) × (length w ≡ length
 abbrev μ-loop : tie.MeasureT-loop
 μ-loop w₀ n dof rb cb jr jc r c₀ w c = dof - c
 
--- src/lib.rt:90:5
 loop-holds : tie.Need-loop-holds Inv-loop μ-loop
 unfolding each
 loop-holds c = search needs
 
--- src/lib.rt:91:49
 mul-add-entry : tie.Need-mul-add-entry Inv-loop μ-loop
 mul-add-entry c = search needs
 
--- src/lib.rt:91:49
 add-add-entry : tie.Need-add-add-entry Inv-loop μ-loop
 add-add-entry c = search needs
 
--- src/lib.rt:91:63
 mul-add-entry-2 : tie.Need-mul-add-entry-2 Inv-loop μ-loop
 mul-add-entry-2 c = search needs
 
--- src/lib.rt:91:63
 add-add-entry-2 : tie.Need-add-add-entry-2 Inv-loop μ-loop
 add-add-entry-2 c = search needs
 
--- src/lib.rt:91:33
 add-entry-requires : tie.Need-add-entry-requires Inv-loop μ-loop
 add-entry-requires c κs = search needs
 
--- src/lib.rt:91:26
 enum-known-why : tie.Need-enum-known-why Inv-loop μ-loop
 enum-known-why c = search needs
 
--- src/lib.rt:92:13
 same-length : tie.Need-same-length Inv-loop μ-loop
 same-length c = search needs
 
--- src/lib.rt:92:13
 returns : tie.Need-returns Inv-loop μ-loop
 unfolding rowOf
 returns c = let l = c .before .before .before .before .before .before .before .before .loop in each-early _ _ _ _ (l .inv .2) (cc) (c .before .before .before .before .before .before .before .loop-test .taken)
@@ -59,23 +47,18 @@ returns c = let l = c .before .before .before .before .before .before .before .b
 enum-told : tie.Need-enum-told Inv-loop μ-loop
 enum-told c = search needs
 
--- src/lib.rt:90:9
 add-c : tie.Need-add-c Inv-loop μ-loop
 add-c c = search needs
 
--- src/lib.rt:90:5
 loop-less : tie.Need-loop-less Inv-loop μ-loop
 loop-less c = search needs
 
--- src/lib.rt:90:5
 loop-again : tie.Need-loop-again Inv-loop μ-loop
 loop-again c = let l = c .before .before .before .before .before .before .before .loop in (omega arith, omega arith, each-more _ _ _ (l .inv .2) (cc))
 
--- src/lib.rt:86:1
 same-length-2 : tie.Need-same-length-2 Inv-loop μ-loop
 same-length-2 c = search needs
 
--- src/lib.rt:86:1
 returns-2 : tie.Need-returns-2 Inv-loop μ-loop
 unfolding rowOf
 returns-2 c = let l = c .before .loop in each-all _ _ _ _ (l .inv .2) (omega arith)

@@ -4,32 +4,23 @@ use Rattle.assembly.specs.Assembly.{crossOf}
 use borrow.Author.Needs.{needs}
 use Rattle.assembly.proofs.add_cross.Statement.{statement}
 use Rattle.assembly.proofs.add_cross.Tie as tie
-use Rattle.assembly.proofs.add_cross.Reads as reads
-use Rattle.assembly.proofs.add_cross.Lts as lts
-use Rattle.assembly.proofs.accumulate_hessian.Reads as accumulate-hessian-reads
 
--- src/lib.rt:129:9
 accumulate-hessian-requires : tie.Need-accumulate-hessian-requires
 accumulate-hessian-requires c κs = search needs
 
--- src/lib.rt:129:9
 same-length : tie.Need-same-length
 same-length c = search needs
 
--- src/lib.rt:129:9
 returns : tie.Need-returns
 unfolding crossOf
 returns c = taken _ (lt-ltb _ _ (c .before .before .before .before .if1 .taken)) (c .before .before .accumulate-hessian .ensures)
 
--- src/lib.rt:131:5
 accumulate-hessian-requires-2 : tie.Need-accumulate-hessian-requires-2
 accumulate-hessian-requires-2 c κs = search needs
 
--- src/lib.rt:124:1
 same-length-2 : tie.Need-same-length-2
 same-length-2 c = search needs
 
--- src/lib.rt:124:1
 returns-2 : tie.Need-returns-2
 unfolding crossOf
 returns-2 c = left _ (le-ltb _ _ (c .before .before .before .before .if1 .left)) (c .before .before .accumulate-hessian2 .ensures)

@@ -2,63 +2,43 @@ use Rattle.assembly.proofs.Edges.{edge-added, slot-fits}
 use borrow.Author.Needs.{needs}
 use Rattle.assembly.proofs.add_edge_at.Statement.{statement}
 use Rattle.assembly.proofs.add_edge_at.Tie as tie
-use Rattle.assembly.proofs.add_edge_at.Reads as reads
-use Rattle.assembly.proofs.add_edge_at.Lts as lts
-use Rattle.assembly.proofs.add_edge.Reads as add-edge-reads
-use Rattle.graph.proofs.edge_at.Reads as edge-at-reads
-use Rattle.graph.proofs.pose_at.Reads as pose-at-reads
-use Rattle.graph.proofs.slot_at.Reads as slot-at-reads
-use Rattle.numbers.proofs.index_at.Reads as index-at-reads
 
--- src/lib.rt:340:38
 mul-index-at : tie.Need-mul-index-at
 mul-index-at c = search needs
 
--- src/lib.rt:340:9
 index-at-requires : tie.Need-index-at-requires
 index-at-requires c κs = search needs
 
--- src/lib.rt:341:38
 mul-index-at-2 : tie.Need-mul-index-at-2
 mul-index-at-2 c = search needs
 
--- src/lib.rt:341:38
 add-index-at : tie.Need-add-index-at
 add-index-at c = search needs
 
--- src/lib.rt:341:9
 index-at-requires-2 : tie.Need-index-at-requires-2
 index-at-requires-2 c κs = search needs
 
--- src/lib.rt:342:9
 slot-at-requires : tie.Need-slot-at-requires
 slot-at-requires c κs = search needs
 
--- src/lib.rt:343:9
 slot-at-requires-2 : tie.Need-slot-at-requires-2
 slot-at-requires-2 c κs = search needs
 
--- src/lib.rt:344:9
 pose-at-requires : tie.Need-pose-at-requires
 pose-at-requires c κs = search needs
 
--- src/lib.rt:345:9
 pose-at-requires-2 : tie.Need-pose-at-requires-2
 pose-at-requires-2 c κs = search needs
 
--- src/lib.rt:346:9
 edge-at-requires : tie.Need-edge-at-requires
 edge-at-requires c κs = search needs
 
--- src/lib.rt:347:5
 add-edge-requires : tie.Need-add-edge-requires
 add-edge-requires c κs = let a = c .before .before .before .before .before .before .before .before .before .before .before .before .args in (slot-fits (a .m) (a .blocks .now) (a .free) _ (c .before .before .before .before .before .before .before .before .before .before .before .before .pre .0) (c .before .before .before .before .before .slot-at .ensures), slot-fits (a .m) (a .blocks .now) (a .free) _ (c .before .before .before .before .before .before .before .before .before .before .before .before .pre .0) (c .before .before .before .before .slot-at2 .ensures), c .before .before .before .before .before .before .before .before .before .before .before .before .pre .1)
 
--- src/lib.rt:336:1
 same-length : tie.Need-same-length
 same-length c = search needs
 
--- src/lib.rt:336:1
 returns : tie.Need-returns
 returns c = let a = c .before .before .before .before .before .before .before .before .before .before .before .before .before .before .before .args in edge-added (a .m) (a .n) (a .poses .now) (a .ends .now) (a .edges .now) (a .blocks .now) (a .free) (a .k) (a .w .now) (c .before .before .before .before .before .before .before .before .before .before .index-at .ensures) (c .before .before .before .before .before .before .before .before .before .index-at2 .ensures) (c .before .before .before .before .before .before .before .before .slot-at .ensures) (c .before .before .before .before .before .before .before .slot-at2 .ensures) (c .before .before .before .before .before .before .pose-at .ensures) (c .before .before .before .before .before .pose-at2 .ensures) (c .before .before .before .before .edge-at .ensures) (c .before .before .add-edge .ensures)
 

@@ -2,58 +2,43 @@ use Rattle.assembly.proofs.Edges.{ends-lost-a, ends-lost-b, ends-had}
 use borrow.Author.Needs.{needs}
 use Rattle.assembly.proofs.add_ends.Statement.{statement}
 use Rattle.assembly.proofs.add_ends.Tie as tie
-use Rattle.assembly.proofs.add_ends.Reads as reads
-use Rattle.assembly.proofs.add_ends.Lts as lts
-use Rattle.assembly.proofs.add_cross.Reads as add-cross-reads
-use Rattle.assembly.proofs.add_end.Reads as add-end-reads
 
--- src/lib.rt:274:29
 add-end-requires : tie.Need-add-end-requires
 add-end-requires c κs = search needs
 
--- src/lib.rt:274:22
 enum-known-why : tie.Need-enum-known-why
 enum-known-why c = search needs
 
--- src/lib.rt:275:9
 same-length : tie.Need-same-length
 same-length c = search needs
 
--- src/lib.rt:275:9
 returns : tie.Need-returns
 returns c = ends-lost-a _ _ _ _ _ _ _ _ (c .before .before .before .before .before .add-end .ensures) (c .before .why .given .1)
 
 enum-told : tie.Need-enum-told
 enum-told c = search needs
 
--- src/lib.rt:277:29
 add-end-requires-2 : tie.Need-add-end-requires-2
 add-end-requires-2 c κs = search needs
 
--- src/lib.rt:277:22
 enum-known-why-2 : tie.Need-enum-known-why-2
 enum-known-why-2 c = search needs
 
--- src/lib.rt:278:9
 same-length-2 : tie.Need-same-length-2
 same-length-2 c = search needs
 
--- src/lib.rt:278:9
 returns-2 : tie.Need-returns-2
 returns-2 c = ends-lost-b _ _ _ _ _ _ _ _ (c .before .before .before .before .before .before .before .before .before .before .before .add-end .ensures) (c .before .before .before .before .before .before .before .enum-told .given .1) (c .before .before .before .before .before .add-end2 .ensures) (c .before .why2 .given .1)
 
 enum-told-2 : tie.Need-enum-told-2
 enum-told-2 c = search needs
 
--- src/lib.rt:280:5
 add-cross-requires : tie.Need-add-cross-requires
 add-cross-requires c κs = search needs
 
--- src/lib.rt:270:1
 same-length-3 : tie.Need-same-length-3
 same-length-3 c = search needs
 
--- src/lib.rt:270:1
 returns-3 : tie.Need-returns-3
 returns-3 c = ends-had _ _ _ _ _ _ _ _ (c .before .before .before .before .before .before .before .before .before .before .before .before .before .before .add-end .ensures) (c .before .before .before .before .before .before .before .before .before .before .enum-told .given .1) (c .before .before .before .before .before .before .before .before .add-end2 .ensures) (c .before .before .before .before .enum-told2 .given .1) (c .before .before .add-cross .ensures)
 

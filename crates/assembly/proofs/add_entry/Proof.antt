@@ -5,37 +5,26 @@ use Rattle.assembly.proofs.Laws.{in-square}
 use borrow.Author.Needs.{needs}
 use Rattle.assembly.proofs.add_entry.Statement.{statement}
 use Rattle.assembly.proofs.add_entry.Tie as tie
-use Rattle.assembly.proofs.add_entry.Reads as reads
-use Rattle.assembly.proofs.add_entry.Lts as lts
-use Rattle.assembly.proofs.add_to.Reads as add-to-reads
-use Rattle.assembly.proofs.dot.Reads as dot-reads
 
--- src/lib.rt:79:9
 returns : tie.Need-returns
 unfolding entryOf
 returns c = simp (lt-leb _ _ (c .if1 .taken))
 
--- src/lib.rt:81:9
 dot-requires : tie.Need-dot-requires
 dot-requires c κs = search needs
 
--- src/lib.rt:82:15
 mul-add-to : tie.Need-mul-add-to
 mul-add-to c = let a = c .before .before .before .before .args in omega (arith, in-square (a .n) (a .col) (a .row) (omega arith) (omega arith))
 
--- src/lib.rt:82:15
 add-add-to : tie.Need-add-add-to
 add-add-to c = let a = c .before .before .before .before .args in omega (arith, in-square (a .n) (a .col) (a .row) (omega arith) (omega arith))
 
--- src/lib.rt:82:5
 add-to-requires : tie.Need-add-to-requires
 add-to-requires c κs = let a = c .before .before .before .before .args in omega (arith, in-square (a .n) (a .col) (a .row) (omega arith) (omega arith))
 
--- src/lib.rt:74:1
 same-length : tie.Need-same-length
 same-length c = search needs
 
--- src/lib.rt:74:1
 returns-2 : tie.Need-returns-2
 unfolding entryOf
 returns-2 c = simp (le-leb _ _ (c .before .before .before .before .before .if1 .left)) (cc)

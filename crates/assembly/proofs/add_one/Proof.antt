@@ -1,71 +1,48 @@
-use native.Mathlib.Omega.{arith}
-use mathlib.Core.Path.{_≡_, ap, sym}
 use Rattle.assembly.proofs.Going.{dof-small}
 use Rattle.assembly.proofs.Edges.{one-lost, one-no-jacobian, one-had}
 use borrow.Author.Needs.{needs}
 use Rattle.assembly.proofs.add_one.Statement.{statement}
 use Rattle.assembly.proofs.add_one.Tie as tie
-use Rattle.assembly.proofs.add_one.Reads as reads
-use Rattle.assembly.proofs.add_one.Lts as lts
-use Rattle.assembly.proofs.add_end.Reads as add-end-reads
-use Rattle.assembly.proofs.edge_endpoint_jacobian.Reads as edge-endpoint-jacobian-reads
-use Rattle.assembly.proofs.went_of.Reads as went-of-reads
-use Rattle.graph.proofs.dof.Reads as dof-reads
-use Rattle.residual.proofs.six_of.Reads as six-of-reads
-use Rattle.residual.proofs.weighted_relative_residual.Reads as weighted-relative-residual-reads
 
--- src/lib.rt:276:19
 weighted-relative-residual-requires : tie.Need-weighted-relative-residual-requires
 weighted-relative-residual-requires c κs = search needs
 
--- src/lib.rt:277:23
 enum-known-d : tie.Need-enum-known-d
 enum-known-d c = search needs
 
--- src/lib.rt:278:26
 enum-known-why : tie.Need-enum-known-why
 enum-known-why c = search needs
 
--- src/lib.rt:278:34
 returns : tie.Need-returns
 returns c = one-lost _ _ _ _ _ _ (c .before .before .before .weighted-relative-residual .ensures) _ _ (c .before .why .given .1)
 
--- src/lib.rt:280:13
 six-of-requires : tie.Need-six-of-requires
 six-of-requires c κs = search needs
 
--- src/lib.rt:282:13
 edge-endpoint-jacobian-requires : tie.Need-edge-endpoint-jacobian-requires
 edge-endpoint-jacobian-requires c κs = search needs
 
--- src/lib.rt:283:29
 went-of-requires : tie.Need-went-of-requires
 went-of-requires c κs = search needs
 
--- src/lib.rt:283:22
 enum-known-why-2 : tie.Need-enum-known-why-2
 enum-known-why-2 c = search needs
 
--- src/lib.rt:284:9
 returns-2 : tie.Need-returns-2
 returns-2 c = one-no-jacobian _ _ _ _ _ _ (c .before .before .before .before .before .before .before .before .before .before .weighted-relative-residual .ensures) _ _ (c .before .before .before .before .before .before .before .before .d .given .1) (c .before .before .before .before .edge-endpoint-jacobian .ensures) (c .before .before .before .went-of .ensures) (c .before .why2 .given .1)
 
 enum-told : tie.Need-enum-told
 enum-told c = search needs
 
--- src/lib.rt:286:19
 dof-requires : tie.Need-dof-requires
 dof-requires c κs = search needs
 
--- src/lib.rt:286:5
 add-end-requires : tie.Need-add-end-requires
 add-end-requires c κs = rw (c .before .before .dof .ensures) (c .before .before .before .before .before .before .before .before .before .before .before .before .before .before .before .pre .0, c .before .before .before .before .before .before .before .before .before .before .before .before .before .before .before .pre .1, dof-small (c .before .before .before .before .before .before .before .before .before .before .before .before .before .before .before .args .m))
 
--- src/lib.rt:272:1
 same-length : tie.Need-same-length
 same-length c = search needs
 
--- src/lib.rt:272:1
 returns-3 : tie.Need-returns-3
 returns-3 c = one-had _ _ _ _ _ _ (c .before .before .before .before .before .before .before .before .before .before .before .before .before .before .before .before .weighted-relative-residual .ensures) _ _ (c .before .before .before .before .before .before .before .before .before .before .before .before .before .before .d .given .1) (c .before .before .before .before .before .before .before .before .before .before .edge-endpoint-jacobian .ensures) (c .before .before .before .before .before .before .before .before .before .went-of .ensures) (c .before .before .before .before .before .before .before .enum-told .given .1) (c .before .before .before .before .before .before .before .before .before .before .before .before .six-of .ensures) (c .before .before .before .before .before .dof .ensures) (c .before .before .add-end .ensures)
 

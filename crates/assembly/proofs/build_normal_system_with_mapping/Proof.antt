@@ -11,12 +11,6 @@ use Rattle.assembly.proofs.Going.{dof-small}
 use borrow.Author.Needs.{needs}
 use Rattle.assembly.proofs.build_normal_system_with_mapping.Statement.{statement}
 use Rattle.assembly.proofs.build_normal_system_with_mapping.Tie as tie
-use Rattle.assembly.proofs.build_normal_system_with_mapping.Reads as reads
-use Rattle.assembly.proofs.build_normal_system_with_mapping.Lts as lts
-use Rattle.assembly.proofs.add_edge_at.Reads as add-edge-at-reads
-use Rattle.assembly.proofs.clear.Reads as clear-reads
-use Rattle.graph.proofs.dof.Reads as dof-reads
-use Rattle.solve.proofs.has_room.Reads as has-room-reads
 
 abbrev Inv-loop : tie.InvT-loop
 Inv-loop w₀ m poses ends edges blocks free n k₀ k-end w k = (k ≤ k-end) × (length w ≡ length w₀) × (each (edgeStep m n (lentLinks ends edges blocks free) (poseAt poses)) k w₀ ≡ done w)
@@ -24,74 +18,57 @@ Inv-loop w₀ m poses ends edges blocks free n k₀ k-end w k = (k ≤ k-end) ×
 abbrev μ-loop : tie.MeasureT-loop
 μ-loop w₀ m poses ends edges blocks free n k₀ k-end w k = k-end - k
 
--- src/lib.rt:371:13
 dof-requires : tie.Need-dof-requires Inv-loop μ-loop
 dof-requires c κs = search needs
 
--- src/lib.rt:371:13
 mul-n : tie.Need-mul-n Inv-loop μ-loop
 mul-n c = omega (arith, unknowns (c .dof .result) (c .before .before .before .before .before .args .free) (rw (c .dof .ensures) (dof-small (c .before .before .before .before .before .args .m))))
 
--- src/lib.rt:372:9
 has-room-requires : tie.Need-has-room-requires Inv-loop μ-loop
 has-room-requires c κs = search needs
 
--- src/lib.rt:373:9
 returns : tie.Need-returns Inv-loop μ-loop
 returns c = let a = c .before .before .before .before .before .before .before .args in rw (← c .before .before .dof .ensures) (too-short (a .m) (c .before .before .dof .result * a .free) (lentLinks (a .ends .now) (a .edges .now) (a .blocks .now) (a .free)) (poseAt (a .poses .now)) (a .w .now) (c .before .has-room .ensures) (c .if1 .taken))
 
--- src/lib.rt:375:19
 add-clear : tie.Need-add-clear Inv-loop μ-loop
 add-clear c = omega (arith, unknowns (c .before .before .before .dof .result) (c .before .before .before .before .before .before .before .before .args .free) (rw (c .before .before .before .dof .ensures) (dof-small (c .before .before .before .before .before .before .before .before .args .m))))
 
--- src/lib.rt:375:14
 mul-clear : tie.Need-mul-clear Inv-loop μ-loop
 mul-clear c = let s = has-space (need (c .before .before .before .dof .result * c .before .before .before .before .before .before .before .before .args .free)) (length (c .before .before .before .before .before .before .before .before .args .w .now)) (c .before .before .has-room .ensures) (c .before .if1 .left) in omega arith
 
--- src/lib.rt:375:5
 clear-requires : tie.Need-clear-requires Inv-loop μ-loop
 clear-requires c κs = has-space (need (c .before .before .before .dof .result * c .before .before .before .before .before .before .before .before .args .free)) (length (c .before .before .before .before .before .before .before .before .args .w .now)) (c .before .before .has-room .ensures) (c .before .if1 .left)
 
--- src/lib.rt:376:5
 loop-holds : tie.Need-loop-holds Inv-loop μ-loop
 loop-holds c = (omega arith, refl, each-none _ _)
 
--- src/lib.rt:377:33
 add-edge-at-requires : tie.Need-add-edge-at-requires Inv-loop μ-loop
 add-edge-at-requires c κs = let s = has-space (need (c .before .before .before .before .before .before .before .before .before .dof .result * c .before .before .before .before .before .before .before .before .before .before .before .before .before .before .args .free)) (length (c .before .before .before .before .before .before .before .before .before .before .before .before .before .before .args .w .now)) (c .before .before .before .before .before .before .before .before .has-room .ensures) (c .before .before .before .before .before .before .before .if1 .left) in (ap (λ d. d * c .before .before .before .before .before .before .before .before .before .before .before .before .before .before .args .free) (c .before .before .before .before .before .before .before .before .before .dof .ensures), omega arith, omega arith)
 
--- src/lib.rt:377:26
 enum-known-why : tie.Need-enum-known-why Inv-loop μ-loop
 enum-known-why c = search needs
 
--- src/lib.rt:378:13
 same-length : tie.Need-same-length Inv-loop μ-loop
 same-length c = search needs
 
--- src/lib.rt:378:13
 returns-2 : tie.Need-returns-2 Inv-loop μ-loop
 returns-2 c = let a = c .before .before .before .before .before .before .before .before .before .before .before .before .before .before .before .before .before .before .before .before .args in let l = c .before .before .before .before .before .before .before .before .loop in rw (← c .before .before .before .before .before .before .before .before .before .before .before .before .before .before .before .dof .ensures) (bad-edge (a .m) (c .before .before .before .before .before .before .before .before .before .before .before .before .before .before .before .dof .result * a .free) (lentLinks (a .ends .now) (a .edges .now) (a .blocks .now) (a .free)) (poseAt (a .poses .now)) (a .w .now) (c .before .before .before .before .before .before .before .before .before .before .before .before .before .before .has-room .ensures) (c .before .before .before .before .before .before .before .before .before .before .before .before .before .if1 .left) (c .before .before .before .before .before .before .before .before .before .before .before .clear .ensures) (l .k) (l .inv .2) (c .before .before .before .before .before .add-edge-at .ensures) (c .before .why .given .1) (c .before .before .before .before .before .before .before .loop-test .taken))
 
 enum-told : tie.Need-enum-told Inv-loop μ-loop
 enum-told c = search needs
 
--- src/lib.rt:376:9
 add-k : tie.Need-add-k Inv-loop μ-loop
 add-k c = search needs
 
--- src/lib.rt:376:5
 loop-less : tie.Need-loop-less Inv-loop μ-loop
 loop-less c = search needs
 
--- src/lib.rt:376:5
 loop-again : tie.Need-loop-again Inv-loop μ-loop
 loop-again c = (omega arith, omega arith, each-more _ _ _ (c .before .before .before .before .before .before .before .loop .inv .2) (answered (c .before .before .before .before .add-edge-at .ensures) (c .enum-told .given .1)))
 
--- src/lib.rt:368:1
 same-length-2 : tie.Need-same-length-2 Inv-loop μ-loop
 same-length-2 c = search needs
 
--- src/lib.rt:368:1
 returns-3 : tie.Need-returns-3 Inv-loop μ-loop
 returns-3 c = let a = c .before .before .before .before .before .before .before .before .before .before .before .before .before .args in let l = c .before .loop in rw (← c .before .before .before .before .before .before .before .before .dof .ensures) (all-edges (a .m) (c .before .before .before .before .before .before .before .before .dof .result * a .free) (lentLinks (a .ends .now) (a .edges .now) (a .blocks .now) (a .free)) (poseAt (a .poses .now)) (a .w .now) (c .before .before .before .before .before .before .before .has-room .ensures) (c .before .before .before .before .before .before .if1 .left) (c .before .before .before .before .clear .ensures) (l .k) (l .inv .2) (omega arith))
 

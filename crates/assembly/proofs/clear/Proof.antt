@@ -1,15 +1,13 @@
 use Prim.Native.Nat.{_≤_, _-_}
-use mathlib.Core.Path.{_≡_, ap, _∙_}
+use mathlib.Core.Path.{_≡_}
 use mathlib.Core.List.{_++_}
 use native.Mathlib.Omega.{arith}
-use lib.ListN.{length, set, drop, replicate, length-set}
+use lib.ListN.{length, drop, replicate, length-set}
 use Rattle.numbers.specs.Notation.{num}
 use Rattle.assembly.proofs.Laws.{fill-more, zero-num}
 use borrow.Author.Needs.{needs}
 use Rattle.assembly.proofs.clear.Statement.{statement}
 use Rattle.assembly.proofs.clear.Tie as tie
-use Rattle.assembly.proofs.clear.Reads as reads
-use Rattle.assembly.proofs.clear.Lts as lts
 
 abbrev Inv-loop : tie.InvT-loop
 Inv-loop w₀ count i₀ w i = (i ≤ count) × (length w ≡ length w₀) × (w ≡ replicate i (num 0) ++ drop i w₀)
@@ -17,35 +15,27 @@ Inv-loop w₀ count i₀ w i = (i ≤ count) × (length w ≡ length w₀) × (w
 abbrev μ-loop : tie.MeasureT-loop
 μ-loop w₀ count i₀ w i = count - i
 
--- src/lib.rt:355:5
 loop-holds : tie.Need-loop-holds Inv-loop μ-loop
 loop-holds c = search needs
 
--- src/lib.rt:356:9
 mul-w : tie.Need-mul-w Inv-loop μ-loop
 mul-w c = search needs
 
--- src/lib.rt:356:9
 slice-write-w : tie.Need-slice-write-w Inv-loop μ-loop
 slice-write-w c = search needs
 
--- src/lib.rt:355:9
 add-i : tie.Need-add-i Inv-loop μ-loop
 add-i c = search needs
 
--- src/lib.rt:355:5
 loop-less : tie.Need-loop-less Inv-loop μ-loop
 loop-less c = search needs
 
--- src/lib.rt:355:5
 loop-again : tie.Need-loop-again Inv-loop μ-loop
 loop-again c = let a = c .before .before .args in let l = c .before .loop in (omega arith, simp length-set (l .inv .1), rw (← zero-num, l .inv .2) (fill-more (l .i) (num 0) (a .w .now) (omega arith)))
 
--- src/lib.rt:351:1
 same-length : tie.Need-same-length Inv-loop μ-loop
 same-length c = search needs
 
--- src/lib.rt:351:1
 returns : tie.Need-returns Inv-loop μ-loop
 returns c = let a = c .before .before .args in let l = c .before .loop in let e : l .i ≡ a .count = omega arith in rw (← e) (l .inv .2)
 

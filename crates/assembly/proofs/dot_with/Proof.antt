@@ -10,8 +10,6 @@ use Rattle.assembly.specs.Jacobians.{cell}
 use borrow.Author.Needs.{needs}
 use Rattle.assembly.proofs.dot_with.Statement.{statement}
 use Rattle.assembly.proofs.dot_with.Tie as tie
-use Rattle.assembly.proofs.dot_with.Reads as reads
-use Rattle.assembly.proofs.dot_with.Lts as lts
 
 abbrev Inv-loop : tie.InvT-loop
 Inv-loop a i r s₀ k₀ s k = (k ≤ 6) × (s ≡ sumOf binary32 (λ q. cell a q i ⊠ getD r q nan) k)
@@ -19,48 +17,37 @@ Inv-loop a i r s₀ k₀ s k = (k ≤ 6) × (s ≡ sumOf binary32 (λ q. cell a 
 abbrev μ-loop : tie.MeasureT-loop
 μ-loop a i r s₀ k₀ s k = 6 - k
 
--- src/lib.rt:43:5
 loop-holds : tie.Need-loop-holds Inv-loop μ-loop
 unfolding sumOf
 loop-holds c = search needs
 
--- src/lib.rt:44:17
 mul-s : tie.Need-mul-s Inv-loop μ-loop
 mul-s c = search needs
 
--- src/lib.rt:44:17
 mul-s-2 : tie.Need-mul-s-2 Inv-loop μ-loop
 mul-s-2 c = search needs
 
--- src/lib.rt:44:17
 index-1-s : tie.Need-index-1-s Inv-loop μ-loop
 index-1-s c = search needs
 
--- src/lib.rt:44:17
 index-2-s : tie.Need-index-2-s Inv-loop μ-loop
 index-2-s c = search needs
 
--- src/lib.rt:44:27
 mul-s-3 : tie.Need-mul-s-3 Inv-loop μ-loop
 mul-s-3 c = search needs
 
--- src/lib.rt:44:27
 element-copy-out-s : tie.Need-element-copy-out-s Inv-loop μ-loop
 element-copy-out-s c = search needs
 
--- src/lib.rt:43:9
 add-k : tie.Need-add-k Inv-loop μ-loop
 add-k c = search needs
 
--- src/lib.rt:43:5
 loop-less : tie.Need-loop-less Inv-loop μ-loop
 loop-less c = search needs
 
--- src/lib.rt:43:5
 loop-again : tie.Need-loop-again Inv-loop μ-loop
 loop-again c = let a = c .before .before .before .before .args in let l = c .before .before .before .loop in (omega arith, sum-more binary32 (λ q. cell (a .a .now) q (a .i) ⊠ getD (a .r .now) q nan) (l .k) _ (l .inv .1))
 
--- src/lib.rt:38:1
 returns : tie.Need-returns Inv-loop μ-loop
 returns c = let a = c .before .before .args in let l = c .before .loop in let e : l .k ≡ 6 = omega arith in l .inv .1 ∙ ap (sumOf binary32 (λ q. cell (a .a .now) q (a .i) ⊠ getD (a .r .now) q nan)) e
 

@@ -2,23 +2,16 @@ use Rattle.assembly.specs.Jacobians.{slopeVec}
 use borrow.Author.Needs.{needs}
 use Rattle.assembly.proofs.slope_vec.Statement.{statement}
 use Rattle.assembly.proofs.slope_vec.Tie as tie
-use Rattle.assembly.proofs.slope_vec.Reads as reads
-use Rattle.assembly.proofs.slope_vec.Lts as lts
-use Rattle.assembly.proofs.slope_of.Reads as slope-of-reads
 
--- src/lib.rt:59:12
 slope-of-requires : tie.Need-slope-of-requires
 slope-of-requires c κs = search needs
 
--- src/lib.rt:60:12
 slope-of-requires-2 : tie.Need-slope-of-requires-2
 slope-of-requires-2 c κs = search needs
 
--- src/lib.rt:61:12
 slope-of-requires-3 : tie.Need-slope-of-requires-3
 slope-of-requires-3 c κs = search needs
 
--- src/lib.rt:55:1
 returns : tie.Need-returns
 unfolding slopeVec
 returns c = cc

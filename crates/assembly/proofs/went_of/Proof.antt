@@ -2,18 +2,13 @@ use mathlib.Core.Path.{refl}
 use borrow.Author.Tests.{eq-eqb, ne-eqb}
 use Rattle.numbers.proofs.Choices.{taken, left}
 use Rattle.assembly.specs.Jacobians.{wentOf}
-use borrow.Author.Needs.{needs}
 use Rattle.assembly.proofs.went_of.Statement.{statement}
 use Rattle.assembly.proofs.went_of.Tie as tie
-use Rattle.assembly.proofs.went_of.Reads as reads
-use Rattle.assembly.proofs.went_of.Lts as lts
 
--- src/lib.rt:129:9
 returns : tie.Need-returns
 unfolding wentOf
 returns c = taken _ (eq-eqb _ _ (c .if1 .taken)) refl
 
--- src/lib.rt:125:1
 returns-2 : tie.Need-returns-2
 unfolding wentOf
 returns-2 c = left _ (ne-eqb _ _ (c .if1 .left)) refl
