@@ -2,12 +2,11 @@
 use mathlib.Core.Path.{_≡_, refl, sym, ap, ap₂, _∙_, subst}
 use mathlib.Core.Bool.{Bool, true, false}
 use mathlib.Core.List.{List, [], _++_}
-use Prim.Native.Nat.{ℕ, _+_, _-_, _*_, _<_, _≤_}
+use Prim.Native.Nat.{ℕ, _+_, _-_, _*_, _≤_}
 use native.Mathlib.Omega.{arith}
 use native.Mathlib.Nat.{le-of-eq}
 use borrow.Author.Tests.{le-ltb}
-use lib.Dec.{ltb}
-use lib.ListN.{length, getD, take, drop, replicate, length-take, length-drop, drop-of-length-le}
+use lib.ListN.{length, getD, take, drop, replicate, length-drop, drop-of-length-le}
 use lib.Seq.{getD-take, getD-drop, drop-nil, length-take-le}
 use lib.Ieee.{Float, nan, lt}
 use Rattle.numbers.specs.Notation.{num, if-then}
@@ -22,18 +21,17 @@ use Rattle.graph.specs.Lent.{dofOf, poseAt}
 use Rattle.graph.specs.declared.Edge.{Edge}
 use Rattle.graph.specs.declared.Manifold.{Manifold}
 use Rattle.solve.specs.Rule.{nothing}
-use Rattle.solve.specs.Work.{need, gradientOf, workAfter}
+use Rattle.solve.specs.Work.{need, workAfter}
 use Rattle.assembly.specs.Assembly.{cleared, assembledEnds, assembledFrom, assembledOf}
 use Rattle.assembly.specs.declared.Assembled.{Assembled}
 use Rattle.assembly.specs.declared.Assembled.the-variants as assembled
-use Rattle.assembly.proofs.Walked.{lent-fits}
+use Rattle.assembly.proofs.Walked.{Fits}
 use Rattle.assembly.proofs.LeftBehind.{Clean, assembled-clean, clean-after}
-use Rattle.decisions.specs.declared.Assembly.{Assembly}
 use Rattle.decisions.specs.declared.Assembly.the-variants as assembly
 use Rattle.sparse_pgo.specs.declared.Job.{Job}
-use Rattle.sparse_pgo.specs.Parts.{assemblyOf, assemblyRow}
+use Rattle.sparse_pgo.specs.Parts.{assemblyOf}
 use Rattle.sparse_pgo.specs.Numerics.{partsOn, normOf}
-use Rattle.sparse_pgo.specs.Turns.{partsIn, linksIn, Sized, Holds, Made}
+use Rattle.sparse_pgo.specs.Turns.{partsIn, Sized, Made}
 use Rattle.sparse_pgo.proofs.Steps.{norm-same}
 
 -- work of exactly what is needed: what stood in it does not count
@@ -54,12 +52,9 @@ part-norm w n from to e q =
     ∙ ap (normOf (λ i. getD (take n (drop from w)) i nan)) (length-take-le n (drop from w) k)
     ∙ norm-same (λ i. getD (take n (drop from w)) i nan) (λ i. getD w (from + i) nan) n (λ i h. getD-take n (drop from w) i nan h ∙ getD-drop from w i nan)
 
-module _ (job : Job) (ends : List ℕ) (edges : List Float) (blocks : List ℕ) (poses w32 w32' : List Float) (made : Assembled)
+module _ {job : Job} (l : Links Edge) (poses w32 : List Float) {w32' : List Float} {made : Assembled}
     (lent : Sized job × (length w32 ≡ need (job .n)))
-    (h : (made, w32') ≡ assembledOf (job .manifold) (dofOf (job .manifold) * job .free) (linksIn job ends edges blocks) (poseAt poses) w32) where
-  abbrev l : Links Edge
-  l = linksIn job ends edges blocks
-
+    (h : (made, w32') ≡ assembledOf (job .manifold) (dofOf (job .manifold) * job .free) l (poseAt poses) w32) where
   abbrev found : Ended (List Float)
   found = partsIn job l .assembled poses
 
@@ -71,15 +66,13 @@ module _ (job : Job) (ends : List ℕ) (edges : List Float) (blocks : List ℕ) 
       ∙ whole-work (job .manifold) (job .n) l (poseAt poses) w32 (lent .1)
 
   -- what is neither system nor rest is +0
-  bare : workAfter w32' (job .n) nothing ≡ w32'
-  bare =
-      let u : job .n ≡ dofOf (job .manifold) * job .free = lent .0 .unknowns in
-      let room : need (job .n) ≤ length w32 = le-of-eq (sym (lent .1)) in
-      let e : w32' ≡ assembledOf (job .manifold) (job .n) l (poseAt poses) w32 .1 =
-      ap (λ (z : Assembled × List Float). z .1) h ∙ ap (λ (n : ℕ). assembledOf (job .manifold) n l (poseAt poses) w32 .1) (sym u) in
-      clean-after (job .n) w32 w32'
-      (subst (Clean (job .n) w32) (sym e)
-      (assembled-clean (job .n) w32 room (job .manifold) l (poseAt poses) (rw u (lent-fits (job .manifold) ends edges blocks (job .free)))))
+  bare : Fits (job .manifold) (dofOf (job .manifold) * job .free) l → workAfter w32' (job .n) nothing ≡ w32'
+  bare fits =
+      let n : dofOf (job .manifold) * job .free ≡ job .n = sym (lent .0 .unknowns) in
+      let room : need (dofOf (job .manifold) * job .free) ≤ length w32 = rw n (le-of-eq (sym (lent .1))) in
+      let left : Clean (dofOf (job .manifold) * job .free) w32 w32'
+      = subst (Clean (dofOf (job .manifold) * job .free) w32) (ap (λ (z : Assembled × List Float). z .1) (sym h)) (assembled-clean (dofOf (job .manifold) * job .free) w32 room (job .manifold) l (poseAt poses) fits) in
+      ap (λ (k : ℕ). workAfter w32' k nothing) (sym n) ∙ clean-after (dofOf (job .manifold) * job .free) w32 w32' left
 
   said : made ≡ assembledFrom found .0
   said = ap (λ (z : Assembled × List Float). z .0) made-is
@@ -88,8 +81,8 @@ module _ (job : Job) (ends : List ℕ) (edges : List Float) (blocks : List ℕ) 
     sized : length w32' ≡ need (job .n)
     sized = long ∙ lent .1
 
-    pub assemble-bad : (k : ℕ) (why : Failure) → made ≡ assembled.Bad k why → Made job l poses (assembly.Refused (refusal 21 k)) w32'
-    assemble-bad k why q = record { long = sized; answer = go found (sym said ∙ q); holds = λ e. let z : _≡_ {A = ℕ} 0 1 = cc in absurd (omega arith) }
+    pub assemble-bad : {k : ℕ} {why : Failure} → made ≡ assembled.Bad k why → Made job l poses (assembly.Refused (refusal 21 k)) w32'
+    assemble-bad {k} {why} q = record { long = sized; answer = go found (sym said ∙ q); holds = λ e. let z : _≡_ {A = ℕ} 0 1 = cc in absurd (omega arith) }
       where
         go : (e : Ended (List Float)) → assembledFrom e .0 ≡ assembled.Bad k why → assembly.Refused (refusal 21 k) ≡ assemblyOf (partsIn job l) e
         go (done s) b = let z : _≡_ {A = ℕ} 0 1 = cc in absurd (omega arith)
@@ -102,7 +95,7 @@ module _ (job : Job) (ends : List ℕ) (edges : List Float) (blocks : List ℕ) 
         go (done s) b = let z : _≡_ {A = ℕ} 0 1 = cc in omega arith
         go (stopped j why s) b = let z : _≡_ {A = ℕ} 0 1 = cc in omega arith
 
-    module _ (q : made ≡ assembled.Done) (norm tolerance : Float)
+    module _ (q : made ≡ assembled.Done) {norm tolerance : Float}
         (e : norm ≡ normOf (λ i. getD (take (job .n * job .n + job .n + job .n - (job .n * job .n + job .n)) (drop (job .n * job .n + job .n) w32')) i nan) (length (take (job .n * job .n + job .n + job .n - (job .n * job .n + job .n)) (drop (job .n * job .n + job .n) w32'))))
         (u : tolerance ≡ job .settings .«gradient_tolerance») where
       is-done : found ≡ done w32'
@@ -123,6 +116,6 @@ module _ (job : Job) (ends : List ℕ) (edges : List Float) (blocks : List ℕ) 
       unfolding if-then
       assemble-flat t = record { long = sized; answer = answer-is true t; holds = λ e. let z : _≡_ {A = ℕ} 0 1 = cc in absurd (omega arith) }
 
-      pub assemble-steep : lt norm tolerance ≡ false → Made job l poses assembly.Steep w32'
+      pub assemble-steep : Fits (job .manifold) (dofOf (job .manifold) * job .free) l → lt norm tolerance ≡ false → Made job l poses assembly.Steep w32'
       unfolding if-then
-      assemble-steep t = record { long = sized; answer = answer-is false t; holds = λ e. record { system = w32'; steps = nothing; is-system = is-done; work = sym bare } }
+      assemble-steep fits t = record { long = sized; answer = answer-is false t; holds = λ e. record { system = w32'; steps = nothing; is-system = is-done; work = sym (bare fits) } }

@@ -4,7 +4,7 @@ use mathlib.Core.Bool.{Bool, true, false}
 use mathlib.Core.List.{List}
 use Prim.Native.Nat.{ℕ, _+_, _*_}
 use native.Mathlib.Omega.{arith}
-use lib.ListN.{length, getD, drop}
+use lib.ListN.{getD}
 use lib.Ieee.{Float, nan}
 use Rattle.numbers.specs.Walks.{Ended, done, stopped}
 use Rattle.numbers.specs.declared.Failure.{Failure}
@@ -15,18 +15,17 @@ use Rattle.graph.specs.declared.Edge.{Edge}
 use Rattle.residual.specs.Costs.{costEnds, costFrom, costOf}
 use Rattle.residual.specs.declared.Cost.{Cost}
 use Rattle.residual.specs.declared.Cost.the-variants as cost
+use Rattle.assembly.proofs.Laws.{partFrom}
 use Rattle.decisions.specs.Run.{judged, heard}
 use Rattle.decisions.specs.declared.Numerical.the-variants as numerical
 use Rattle.decisions.specs.declared.Reason.{Reason}
 use Rattle.decisions.specs.declared.Reason.the-variants as reason
 use Rattle.decisions.specs.declared.Trial.{Trial}
 use Rattle.decisions.specs.declared.Trial.the-variants as trial
-use Rattle.decisions.specs.declared.Outcome.the-variants as outcome
 use Rattle.sparse_pgo.specs.declared.Job.{Job}
-use Rattle.sparse_pgo.specs.Parts.{trialAs, pricedAs}
 use Rattle.sparse_pgo.specs.Numerics.{partsOn, moves, movedNumbers}
-use Rattle.sparse_pgo.specs.Turns.{partsIn, heldIn, triedIn, stepPart, linksIn, slotsIn, Retracted, Evaluated}
-use Rattle.sparse_pgo.proofs.Parted.{partFrom, part-from, part-reads}
+use Rattle.sparse_pgo.specs.Turns.{heldIn, triedIn, stepPart, Retracted, Evaluated}
+use Rattle.sparse_pgo.proofs.Parted.{part-from, part-reads}
 
 -- ---- a cost is what its walk ends in
 
@@ -57,13 +56,10 @@ module _ (l : Links Edge) (pose : ℕ → Pose) (e : Cost) (h : e ≡ costOf l p
 no-cost : {A : Type 0} (r : Reason) (c : Float) → trial.Rejected r ≡ trial.Accepted c → A
 no-cost r c q = let z : _≡_ {A = ℕ} 0 1 = cc in absurd (omega arith)
 
-module _ (job : Job) (ends : List ℕ) (edges : List Float) (blocks : List ℕ) (price : Float) (w32 before after : List Float) (r : Bool)
-    (h : Retracted job (slotsIn job blocks) (λ i. getD (partFrom (job .n * job .n + job .n + job .n) w32) i nan) before r after) where
-  abbrev l : Links Edge
-  l = linksIn job ends edges blocks
-
-  moved : Retracted job (slotsIn job blocks) (stepPart job w32) before r after
-  moved = subst (λ (δ : ℕ → Float). Retracted job (slotsIn job blocks) δ before r after) (part-reads (job .n * job .n + job .n + job .n) w32 nan) h
+module _ {job : Job} (l : Links Edge) (price : Float) (w32 : List Float) {before after : List Float} {r : Bool}
+    (h : Retracted job (l .slot) (λ i. getD (partFrom (job .n * job .n + job .n + job .n) w32) i nan) before r after) where
+  moved : Retracted job (l .slot) (stepPart job w32) before r after
+  moved = subst (λ (δ : ℕ → Float). Retracted job (l .slot) δ before r after) (part-reads (job .n * job .n + job .n + job .n) w32) h
 
   -- a retraction failed
   pub trial-unmoved : r ≡ false → Evaluated job l price (stepPart job w32) before (trial.Rejected (reason.Numerical numerical.Retraction)) after
@@ -73,7 +69,7 @@ module _ (job : Job) (ends : List ℕ) (edges : List Float) (blocks : List ℕ) 
       record { answer = rw m; held = moved .held; beside = moved .beside; tried = λ c q. no-cost _ c q }
 
   -- all went well
-  module _ (e : r ≡ true) (found : Cost) (p : found ≡ costOf (linksIn job ends edges blocks) (poseAt (partFrom (job .poses * 12) after))) where
+  module _ (e : r ≡ true) {found : Cost} (p : found ≡ costOf l (poseAt (partFrom (job .poses * 12) after))) where
     went : moves (job .manifold) (l .slot) (job .poses) (heldIn job before) (stepPart job w32) ≡ true
     went = sym (moved .answer) ∙ e
 
@@ -83,14 +79,14 @@ module _ (job : Job) (ends : List ℕ) (edges : List Float) (blocks : List ℕ) 
     at : costOf l (poseAt (partFrom (job .poses * 12) after)) ≡ costOf l (poseAt (movedNumbers (job .manifold) (l .slot) (heldIn job before) (stepPart job w32)))
     at = ap (λ (x : List Float). costOf l (poseAt x)) (part-from (job .poses * 12) after ∙ to)
 
-    pub trial-unpriced : (k : ℕ) (why : Failure) → found ≡ cost.Bad k why → Evaluated job l price (stepPart job w32) before (trial.Rejected (reason.Numerical numerical.Unpriced)) after
+    pub trial-unpriced : {k : ℕ} {why : Failure} → found ≡ cost.Bad k why → Evaluated job l price (stepPart job w32) before (trial.Rejected (reason.Numerical numerical.Unpriced)) after
     unfolding partsOn heard
-    trial-unpriced k why q =
+    trial-unpriced {k} {why} q =
         let c = cost-bad l _ found (p ∙ at) k why q in
         record { answer = rw (went, c .ends); held = moved .held; beside = moved .beside; tried = λ c q. no-cost _ c q }
 
-    pub trial-priced : (new : Float) (t : Trial) → found ≡ cost.Of new → t ≡ judged price new → Evaluated job l price (stepPart job w32) before t after
+    pub trial-priced : {new : Float} {t : Trial} → found ≡ cost.Of new → t ≡ judged price new → Evaluated job l price (stepPart job w32) before t after
     unfolding partsOn heard
-    trial-priced new t q j =
+    trial-priced {new} q j =
         let c = cost-had l _ found (p ∙ at) new q in
         record { answer = rw (went, c, j); held = moved .held; beside = moved .beside; tried = λ c q. to }

@@ -12,4 +12,6 @@ pub mod Settling
 pub mod Turning
 pub mod Looping
 pub mod Running
+pub mod Slots
 pub mod Border
+pub mod Demands

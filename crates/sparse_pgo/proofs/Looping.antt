@@ -1,8 +1,8 @@
 -- The turns one after the other: what the loop keeps, and what it knows at its end. Assumes nothing.
-use mathlib.Core.Path.{_≡_, refl, sym, ap, _∙_, subst}
-use mathlib.Core.Bool.{Bool, true, false}
+use mathlib.Core.Path.{_≡_, sym, ap, _∙_, subst}
+use mathlib.Core.Bool.{true, false}
 use mathlib.Core.List.{List}
-use Prim.Native.Nat.{ℕ, _+_, _*_, _<_, _≤_}
+use Prim.Native.Nat.{ℕ, _+_, _<_, _≤_}
 use native.Mathlib.Omega.{arith}
 use denote.Floats.{is-true}
 use lib.Dec.{T}
@@ -12,8 +12,8 @@ use Rattle.numbers.specs.Notation.{num, ratio, ratio32}
 use Rattle.graph.specs.Graph.{Links}
 use Rattle.graph.specs.declared.Edge.{Edge}
 use Rattle.decisions.specs.Damping.{most}
-use Rattle.decisions.specs.Run.{begun, turned}
-use Rattle.decisions.specs.Machine.{Play, movedOn, played, stateOf}
+use Rattle.decisions.specs.Run.{begun}
+use Rattle.decisions.specs.Machine.{Play, movedOn, stateOf}
 use Rattle.decisions.specs.declared.State.{State}
 use Rattle.decisions.specs.declared.End.{End}
 use Rattle.decisions.specs.declared.Next.{Next}
@@ -22,7 +22,7 @@ use Rattle.decisions.proofs.Order.{unsigned, le-of-not-lt}
 use Rattle.decisions.proofs.Going.{Going, turnsLeft, going-begin, going-on, going-less, going-done}
 use Rattle.sparse_pgo.specs.declared.Job.{Job}
 use Rattle.sparse_pgo.specs.Parts.{numerics}
-use Rattle.sparse_pgo.specs.Turns.{partsIn, heldIn, triedIn, linksIn, slotsIn, Lent, Beside, Holds, Turned, Startable, Iterated}
+use Rattle.sparse_pgo.specs.Turns.{partsIn, heldIn, triedIn, Lent, Beside, Holds, Turned, Startable, Iterated}
 
 -- ---- a first damping that passes row 19 is at most 1e10
 
@@ -50,9 +50,9 @@ pub record Turning (job : Job) (l : Links Edge) (cost : Float) (first w32 w64 : 
   pub holds : s .fresh ≡ false → Holds job l (heldIn job w64) w32
   pub going : Going (numerics (partsIn job l)) (job .settings .limit) (job .settings .«cost_tolerance») cost (job .settings .damping) (heldIn job first) s (heldIn job w64)
 
-pub turning-begin : (job : Job) (l : Links Edge) (cost : Float) (w32 w64 : List Float) (s : State) → s ≡ begun cost (job .settings .damping) → Lent job w32 w64 → Startable job
+pub turning-begin : {job : Job} {l : Links Edge} {cost : Float} {w32 w64 : List Float} {s : State} → s ≡ begun cost (job .settings .damping) → Lent job w32 w64 → Startable job
     → T (fits binary32 (job .settings .damping)) → Beside (l .slot) (heldIn job w64) (triedIn job w64) → Turning job l cost w64 w32 w64 s
-turning-begin job l cost w32 w64 s e lent start f b =
+turning-begin {job} {l} {cost} {w32} {w64} {s} e lent start f b =
     record {
       lent = lent;
       beside = b;
@@ -63,7 +63,7 @@ turning-begin job l cost w32 w64 s e lent start f b =
           (start .limited) f (start .positive) (not-above (job .settings .damping) (start .positive) (start .bounded)));
     }
 
-module _ (job : Job) (l : Links Edge) (cost : Float) (first w32 w64 : List Float) (s : State) (g : Turning job l cost first w32 w64 s) where
+module _ {job : Job} {l : Links Edge} {cost : Float} {first w32 w64 : List Float} {s : State} (g : Turning job l cost first w32 w64 s) where
   abbrev limit : ℕ
   limit = job .settings .limit
 
@@ -80,12 +80,12 @@ module _ (job : Job) (l : Links Edge) (cost : Float) (first w32 w64 : List Float
       let b : limit ≤ 1000 = g .going .live .limited in
       omega arith
 
-  module _ (w32' w64' : List Float) (r : Next) (h : Turned job l s w64 r w32' w64') where
+  module _ {w32' w64' : List Float} {r : Next} (h : Turned job l s w64 r w32' w64') where
     -- what is held then
     held-then : (t : State) → stateOf r ≡ t → heldIn job w64' ≡ movedOn s t (numerics (partsIn job l) .moved (heldIn job w64) (s .damping)) (heldIn job w64)
     held-then t e = h .held ∙ ap (λ (z : State). movedOn s z (numerics (partsIn job l) .moved (heldIn job w64) (s .damping)) (heldIn job w64)) e
 
-    module _ (t : State) (e : r ≡ next.On t) where
+    module _ {t : State} (e : r ≡ next.On t) where
       pub turning-on : length w64' ≡ length w64 → Turning job l cost first w32' w64' t
       turning-on k =
           record {
@@ -100,8 +100,8 @@ module _ (job : Job) (l : Links Edge) (cost : Float) (first w32 w64 : List Float
       pub turning-less : turnsLeft (job .settings .limit) t < turnsLeft (job .settings .limit) s
       turning-less = going-less (numerics (partsIn job l)) limit tolerance cost damping (heldIn job first) s (heldIn job w64) (g .going) t (sym (h .answer) ∙ e)
 
-    pub turning-over : (t : State) (e : End) → r ≡ next.Over t e → Iterated job l cost first (next.Over t e) w64'
-    turning-over t e q =
+    pub turning-over : {t : State} {e : End} → r ≡ next.Over t e → Iterated job l cost first (next.Over t e) w64'
+    turning-over {t} {e} q =
         let d = going-done (numerics (partsIn job l)) limit tolerance cost damping (heldIn job first) s (heldIn job w64) (g .going) t e (sym (h .answer) ∙ q) in
         record {
           answer = ap (λ (y : Play (List Float)). y .next) (sym d);

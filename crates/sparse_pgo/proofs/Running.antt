@@ -1,15 +1,15 @@
 -- From the first cost to the end, and what is left in the lent numbers. Assumes nothing.
-use mathlib.Core.Path.{_≡_, refl, sym, ap, _∙_, subst}
-use mathlib.Core.Bool.{Bool, true}
+use mathlib.Core.Path.{_≡_, sym, ap, _∙_}
+use mathlib.Core.Bool.{Bool}
 use mathlib.Core.List.{List, _++_}
 use Prim.Native.Nat.{ℕ, _+_, _*_, _-_, _<_, _≤_}
 use native.Mathlib.Omega.{arith}
 use lib.Dec.{T}
-use lib.ListN.{length, take, drop, replicate, length-append, length-drop}
-use lib.Seq.{take-at, drop-at, length-take-le, length-front}
+use lib.ListN.{length, take, drop, replicate, length-append}
+use lib.Seq.{take-at, drop-at}
 use lib.Ieee.{Float, binary32, fits}
 use Rattle.numbers.specs.Notation.{num}
-use Rattle.numbers.specs.Walks.{Ended, done, stopped}
+use Rattle.numbers.specs.Walks.{Ended}
 use Rattle.numbers.specs.Refusals.{refusal}
 use Rattle.numbers.specs.declared.Failure.{Failure}
 use Rattle.numbers.specs.declared.Failure.the-variants.{Numerical}
@@ -17,9 +17,11 @@ use Rattle.numbers.specs.declared.Refusal.{Refusal}
 use Rattle.graph.specs.Graph.{Links}
 use Rattle.graph.specs.Lent.{poseAt}
 use Rattle.graph.specs.declared.Edge.{Edge}
+use Rattle.graph.specs.declared.Slot.{Slot}
 use Rattle.residual.specs.Costs.{costEnds, costOf}
 use Rattle.residual.specs.declared.Cost.{Cost}
 use Rattle.residual.specs.declared.Cost.the-variants as cost
+use Rattle.assembly.proofs.Laws.{withPart}
 use Rattle.decisions.specs.Run.{iterations}
 use Rattle.decisions.specs.Machine.{stateOf, played}
 use Rattle.decisions.specs.Demand.{Held}
@@ -34,11 +36,11 @@ use Rattle.sparse_pgo.specs.declared.Job.{Job}
 use Rattle.sparse_pgo.specs.declared.Joined.{Joined}
 use Rattle.sparse_pgo.specs.declared.Answer.{Answer}
 use Rattle.sparse_pgo.specs.declared.Answer.the-variants as answer
-use Rattle.sparse_pgo.specs.Parts.{Whole, numerics, hasConverged, answerOf, costRow, whole, wholeFrom}
+use Rattle.sparse_pgo.specs.Parts.{Whole, numerics, hasConverged, answerOf, whole, wholeFrom}
 use Rattle.sparse_pgo.specs.Numerics.{partsOn}
 use Rattle.sparse_pgo.specs.Optimize.{given}
-use Rattle.sparse_pgo.specs.Turns.{partsIn, heldIn, triedIn, linksIn, slotsIn, Lent, Beside, Startable, Iterated, Started, Begun}
-use Rattle.sparse_pgo.proofs.Parted.{partFrom, withPart, with-part, length-part}
+use Rattle.sparse_pgo.specs.Turns.{partsIn, heldIn, triedIn, Lent, Beside, Startable, Iterated, Started, Begun}
+use Rattle.sparse_pgo.proofs.Parted.{with-part}
 use Rattle.sparse_pgo.proofs.Evaluating.{cost-had, cost-bad}
 use Rattle.sparse_pgo.proofs.Settling.{beside-same}
 use Rattle.sparse_pgo.proofs.Looping.{not-above}
@@ -61,99 +63,98 @@ module _ (first : Float) {n : Next} where
 
 -- ---- from the first cost on
 
-module _ (job : Job) (ends : List ℕ) (edges : List Float) (blocks : List ℕ) (before : List Float) where
-  abbrev l : Links Edge
-  l = linksIn job ends edges blocks
+-- demand 3 bounds the iterations
+pub counts-fit : {job : Job} {l : Links Edge} {before after : List Float} {c : Float} {r : Next} → Startable job → T (fits binary32 (job .settings .damping)) → Iterated job l c before r after
+    → iterations (stateOf r) < 4294967296
+counts-fit {job} {l} {before} {after} {c} {r} start f h =
+    let held : Held (job .settings .limit) c (stateOf (played (numerics (partsIn job l)) (job .settings .limit) (job .settings .«cost_tolerance») c (job .settings .damping) (heldIn job before) .next))
+    = played-held (numerics (partsIn job l)) (job .settings .limit) (job .settings .«cost_tolerance») c (job .settings .damping) (heldIn job before)
+    (start .limited) f (start .positive) (not-above (job .settings .damping) (start .positive) (start .bounded)) in
+    let trials : iterations (stateOf r) ≤ job .settings .limit = rw (h .answer) (held .trials) in
+    let few : job .settings .limit ≤ 1000 = start .limited in
+    omega arith
 
-  -- demand 3 bounds the iterations
-  pub counts-fit : (c : Float) (r : Next) (after : List Float) → Startable job → T (fits binary32 (job .settings .damping)) → Iterated job (linksIn job ends edges blocks) c before r after
-      → iterations (stateOf r) < 4294967296
-  counts-fit c r after start f h =
-      let held : Held (job .settings .limit) c (stateOf (played (numerics (partsIn job l)) (job .settings .limit) (job .settings .«cost_tolerance») c (job .settings .damping) (heldIn job before) .next))
-      = played-held (numerics (partsIn job l)) (job .settings .limit) (job .settings .«cost_tolerance») c (job .settings .damping) (heldIn job before)
-      (start .limited) f (start .positive) (not-above (job .settings .damping) (start .positive) (start .bounded)) in
-      let trials : iterations (stateOf r) ≤ job .settings .limit = rw (h .answer) (held .trials) in
-      let few : job .settings .limit ≤ 1000 = start .limited in
-      omega arith
+module _ (job : Job) (l : Links Edge) (before : List Float) {found : Cost} (e : found ≡ costOf l (poseAt (take (job .poses * 12) before))) where
+  abbrev run : Whole (List Float)
+  run = whole (partsIn job l) (job .settings) (heldIn job before)
 
-  module _ (found : Cost) (e : found ≡ costOf (linksIn job ends edges blocks) (poseAt (take (job .poses * 12) before))) where
-    whole-is : (d : Ended Float) → costEnds l (poseAt (heldIn job before)) ≡ d → whole (partsIn job l) (job .settings) (heldIn job before) ≡ wholeFrom (partsIn job l) (job .settings) (heldIn job before) d
-    unfolding whole partsOn
-    whole-is d q = rw q
+  whole-is : (d : Ended Float) → costEnds l (poseAt (heldIn job before)) ≡ d → run ≡ wholeFrom (partsIn job l) (job .settings) (heldIn job before) d
+  unfolding whole partsOn
+  whole-is d q = rw q
 
-    pub start-bad : (k : ℕ) (why : Failure) → found ≡ cost.Bad k why → Started job (linksIn job ends edges blocks) before (answer.Refused (refusal 20 k)) before
-    start-bad k Numerical q =
-        let c = cost-bad l _ found e k Numerical q in
-        record { answer = ap (λ (y : Whole (List Float)). y .answer) (sym (whole-is _ (c .ends))); held = ap (λ (y : Whole (List Float)). y .held) (sym (whole-is _ (c .ends))) }
+  pub start-bad : {k : ℕ} {why : Failure} → found ≡ cost.Bad k why → Started job l before (answer.Refused (refusal 20 k)) before
+  start-bad {k} {why} q = go why q
+    where
+      go : (why : Failure) → found ≡ cost.Bad k why → Started job l before (answer.Refused (refusal 20 k)) before
+      go Numerical q =
+          let w = sym (whole-is _ (cost-bad l _ found e k Numerical q .ends)) in
+          record { answer = ap (λ (y : Whole (List Float)). y .answer) w; held = ap (λ (y : Whole (List Float)). y .held) w }
 
-    pub start-goes : (c : Float) (n : Next) (r : Answer) (after : List Float) → found ≡ cost.Of c → Iterated job (linksIn job ends edges blocks) c before n after → r ≡ answerOf c n
-        → Started job (linksIn job ends edges blocks) before r after
-    start-goes c n r after q h a =
-        let w = whole-is _ (cost-had l _ found e c q) in
-        record {
-          answer = a ∙ ap (answerOf c) (h .answer) ∙ ap (λ (y : Whole (List Float)). y .answer) (sym w);
-          held = h .held ∙ ap (λ (y : Whole (List Float)). y .held) (sym w);
-        }
+  pub start-goes : {c : Float} {n : Next} {r : Answer} {after : List Float} → found ≡ cost.Of c → Iterated job l c before n after → r ≡ answerOf c n → Started job l before r after
+  start-goes {c} q h a =
+      let w = sym (whole-is _ (cost-had l _ found e c q)) in
+      record {
+        answer = a ∙ ap (answerOf c) (h .answer) ∙ ap (λ (y : Whole (List Float)). y .answer) w;
+        held = h .held ∙ ap (λ (y : Whole (List Float)). y .held) w;
+      }
 
 -- ---- poses in, the run, poses out, the work cleared
 
-module _ (job : Job) (ends : List ℕ) (edges : List Float) (blocks : List ℕ) (poses w32 w64 y z : List Float)
-    (lent : Lent job w32 w64) (size : length poses ≡ job .poses * 12) (hy : y ≡ poses) (hz : z ≡ poses) where
+-- the poses stand in both halves of w64
+pub record BothHalves (job : Job) (poses w64 both : List Float) : Type 0 where
+  pub held : heldIn job both ≡ poses
+  pub tried : triedIn job both ≡ poses
+  pub long : length both ≡ length w64
+
+-- once they are copied into the first half, then into the second
+module _ (job : Job) (poses w64 y z : List Float) (double : length w64 ≡ job .poses * 24) (size : length poses ≡ job .poses * 12) (hy : y ≡ poses) (hz : z ≡ poses) where
   abbrev half : ℕ
   half = job .poses * 12
 
-  -- with the poses in the first half, and in both
   abbrev one : List Float
   one = y ++ drop (job .poses * 12) w64
-
-  abbrev two : List Float
-  two = withPart (job .poses * 12) (y ++ drop (job .poses * 12) w64) z
 
   first : take half one ≡ poses
   first = take-at y (drop half w64) half (ap length hy ∙ size) ∙ hy
 
-  two-is : two ≡ poses ++ poses
+  two-is : withPart half one z ≡ poses ++ poses
   two-is = with-part half one z ∙ (rw (first, hz))
 
-  pub in-held : heldIn job (withPart (job .poses * 12) (y ++ drop (job .poses * 12) w64) z) ≡ poses
-  in-held = rw two-is (take-at poses poses half size)
+  pub copied-in : BothHalves job poses w64 (withPart (job .poses * 12) (y ++ drop (job .poses * 12) w64) z)
+  copied-in =
+      let k = length-append poses poses in
+      record { held = rw two-is (take-at poses poses half size); tried = rw two-is (drop-at poses poses half size); long = rw two-is (omega arith) }
 
-  pub in-tried : triedIn job (withPart (job .poses * 12) (y ++ drop (job .poses * 12) w64) z) ≡ poses
-  in-tried = rw two-is (drop-at poses poses half size)
+module _ {job : Job} {poses w64 both : List Float} (h : BothHalves job poses w64 both) where
+  pub halves-lent : {w32 : List Float} → Lent job w32 w64 → Lent job w32 both
+  halves-lent lent = record { sized = lent .sized; single = lent .single; double = h .long ∙ lent .double }
 
-  pub in-length : length (withPart (job .poses * 12) (y ++ drop (job .poses * 12) w64) z) ≡ length w64
-  in-length = let a = length-append poses poses in let b : length w64 ≡ job .poses * 24 = lent .double in rw two-is (omega arith)
+  pub halves-beside : (slot : ℕ → Slot) → Beside slot (heldIn job both) (triedIn job both)
+  halves-beside slot = rw (h .held, h .tried) (beside-same slot poses)
 
-  pub in-lent : Lent job w32 (withPart (job .poses * 12) (y ++ drop (job .poses * 12) w64) z)
-  in-lent = record { sized = lent .sized; single = lent .single; double = in-length ∙ lent .double }
+  module _ {l : Links Edge} {a : Answer} {mid64 : List Float} (s : Started job l both a mid64) (l64 : length mid64 ≡ length both)
+      (w32 mid32 last32 last64 out : List Float) (l32 : length mid32 ≡ length w32)
+      (z32 : last32 ≡ replicate (length mid32) (num 0)) (z64 : last64 ≡ replicate (length mid64) (num 0)) where
+    abbrev came : Whole (List Float)
+    came = whole (partsIn job l) (job .settings) poses
 
-  pub in-beside : Beside (slotsIn job blocks) (heldIn job (withPart (job .poses * 12) (y ++ drop (job .poses * 12) w64) z)) (triedIn job (withPart (job .poses * 12) (y ++ drop (job .poses * 12) w64) z))
-  in-beside = rw (in-held, in-tried) (beside-same (slotsIn job blocks) poses)
+    answered : a ≡ came .answer
+    answered = s .answer ∙ ap (λ (x : List Float). whole (partsIn job l) (job .settings) x .answer) (h .held)
 
-  module _ (a : Answer) (mid32 mid64 last32 last64 out : List Float)
-      (s : Started job (linksIn job ends edges blocks) (withPart (job .poses * 12) (y ++ drop (job .poses * 12) w64) z) a mid64)
-      (z32 : last32 ≡ replicate (length mid32) (num 0)) (z64 : last64 ≡ replicate (length mid64) (num 0))
-      (l32 : length mid32 ≡ length w32) (l64 : length mid64 ≡ length (withPart (job .poses * 12) (y ++ drop (job .poses * 12) w64) z)) where
-    abbrev run : Whole (List Float)
-    run = whole (partsIn job (linksIn job ends edges blocks)) (job .settings) poses
+    come-to : heldIn job mid64 ≡ came .held
+    come-to = s .held ∙ ap (λ (x : List Float). whole (partsIn job l) (job .settings) x .held) (h .held)
 
-    answered : a ≡ run .answer
-    answered = s .answer ∙ ap (λ (x : List Float). whole (partsIn job (linksIn job ends edges blocks)) (job .settings) x .answer) in-held
-
-    come-to : heldIn job mid64 ≡ run .held
-    come-to = s .held ∙ ap (λ (x : List Float). whole (partsIn job (linksIn job ends edges blocks)) (job .settings) x .held) in-held
-
-    ends-with : (last : List Float) → last ≡ given out run a → Begun job (linksIn job ends edges blocks) poses w32 w64 out a last32 last64 last
+    ends-with : (last : List Float) → last ≡ given out came a → Begun job l poses w32 w64 out a last32 last64 last
     ends-with last o =
         record {
           answer = answered;
           zero32 = z32 ∙ ap (λ (k : ℕ). replicate k (num 0)) l32;
-          zero64 = z64 ∙ ap (λ (k : ℕ). replicate k (num 0)) (l64 ∙ in-length);
-          output = o ∙ ap (given out run) answered;
+          zero64 = z64 ∙ ap (λ (k : ℕ). replicate k (num 0)) (l64 ∙ h .long);
+          output = o ∙ ap (given out came) answered;
         }
 
-    pub begun-joined : (j : Joined) (last : List Float) → a ≡ answer.Joined j → last ≡ take (job .poses * 12) mid64 → Begun job (linksIn job ends edges blocks) poses w32 w64 out a last32 last64 last
-    begun-joined j last q o = ends-with last (o ∙ come-to ∙ ap (given out run) (sym q))
+    pub begun-joined : (j : Joined) (last : List Float) → a ≡ answer.Joined j → last ≡ take (job .poses * 12) mid64 → Begun job l poses w32 w64 out a last32 last64 last
+    begun-joined j last q o = ends-with last (o ∙ come-to ∙ ap (given out came) (sym q))
 
-    pub begun-refused : (r : Refusal) (last : List Float) → a ≡ answer.Refused r → last ≡ out → Begun job (linksIn job ends edges blocks) poses w32 w64 out a last32 last64 last
-    begun-refused r last q o = ends-with last (o ∙ ap (given out run) (sym q))
+    pub begun-refused : (r : Refusal) (last : List Float) → a ≡ answer.Refused r → last ≡ out → Begun job l poses w32 w64 out a last32 last64 last
+    begun-refused r last q o = ends-with last (o ∙ ap (given out came) (sym q))

@@ -1,45 +1,31 @@
 -- What follows a solve: the trial's poses become the accepted ones, or stay beside them. Assumes nothing.
-use mathlib.Core.Path.{_≡_, refl, sym, ap, _∙_, subst}
+use mathlib.Core.Path.{_≡_, refl, ap, _∙_}
 use mathlib.Core.Bool.{Bool, true, false}
 use mathlib.Core.List.{List, [], _∷_}
 use mathlib.Core.Logic.{⊎-elim}
 use types.Run.{OneOf}
 use denote.Enum.Declared.{tagOf}
-use Prim.Native.Nat.{ℕ, _+_, _*_, _/_, _<_, _≤_}
-use native.Mathlib.Nat.{le-refl}
+use Prim.Native.Nat.{ℕ}
 use native.Mathlib.Omega.{arith}
-use borrow.Author.Tests.{le-ltb, lt-ltb, ne-eqb}
-use lib.Dec.{T, ltb, leb, eqb}
-use lib.ListN.{length, getD}
-use lib.Ieee.{Float, nan, lt}
+use lib.ListN.{length}
+use lib.Ieee.{Float}
 use Rattle.numbers.specs.Notation.{if-then}
 use Rattle.numbers.proofs.Choices.{taken, left}
 use Rattle.graph.specs.Graph.{Links}
 use Rattle.graph.specs.declared.Edge.{Edge}
 use Rattle.graph.specs.declared.Slot.{Slot}
 use Rattle.solve.specs.Work.{need}
-use Rattle.decisions.specs.Damping.{most, increased}
-use Rattle.decisions.specs.Run.{relative, heard, iterations, oneMore, afterFailed, afterAccepted, afterRejected, failing, accepting, rejecting, solved, assembled, passed, turned}
-use Rattle.decisions.specs.Machine.{movedOn, stateOf}
+use Rattle.decisions.specs.Run.{solved}
 use Rattle.decisions.specs.declared.State.{State}
 use Rattle.decisions.specs.declared.Reason.{Reason}
 use Rattle.decisions.specs.declared.Trial.{Trial}
 use Rattle.decisions.specs.declared.Trial.the-variants as trial
-use Rattle.decisions.specs.declared.Assembly.{Assembly}
-use Rattle.decisions.specs.declared.Assembly.the-variants as assembly
 use Rattle.decisions.specs.declared.Outcome.{Outcome}
 use Rattle.decisions.specs.declared.Outcome.the-variants as outcome
-use Rattle.decisions.specs.declared.Gate.{Gate}
-use Rattle.decisions.specs.declared.Gate.the-variants as gate
-use Rattle.decisions.specs.declared.Why.the-variants as why
-use Rattle.decisions.specs.declared.End.{End}
-use Rattle.decisions.specs.declared.End.the-variants as end
 use Rattle.decisions.specs.declared.Next.{Next}
-use Rattle.decisions.specs.declared.Next.the-variants as next
-use Rattle.decisions.proofs.Ways.{turned-stop, turned-go, passed-again}
 use Rattle.sparse_pgo.specs.declared.Job.{Job}
-use Rattle.sparse_pgo.specs.Parts.{numerics, assemblyOf}
-use Rattle.sparse_pgo.specs.Turns.{partsIn, heldIn, triedIn, linksIn, Beside, Holds, accepts, Attempted, Settled, Made, SolvedAgain, Turned}
+use Rattle.sparse_pgo.specs.Parts.{numerics}
+use Rattle.sparse_pgo.specs.Turns.{partsIn, heldIn, triedIn, Beside, accepts, Attempted, Settled, SolvedAgain}
 
 -- a list stands beside itself
 pub beside-same : (slot : ℕ → Slot) (x : List Float) → Beside slot x x
@@ -48,29 +34,26 @@ beside-same slot x = record { same = refl; kept = λ q l e. refl }
 -- ---- after a solve
 
 -- whether a trial was accepted, as the code comes by it
-pub accepted-told : (o : Outcome) (t : Trial) (c : Float) → o ≡ outcome.Tried t → t ≡ trial.Accepted c → accepts o ≡ true
-accepted-told o t c p q = rw (p, q)
+pub accepted-told : {o : Outcome} {t : Trial} {c : Float} → o ≡ outcome.Tried t → t ≡ trial.Accepted c → accepts o ≡ true
+accepted-told p q = rw (p, q)
 
-pub rejected-told : (o : Outcome) (t : Trial) (r : Reason) → o ≡ outcome.Tried t → t ≡ trial.Rejected r → accepts o ≡ false
-rejected-told o t r p q = rw (p, q)
+pub rejected-told : {o : Outcome} {t : Trial} {r : Reason} → o ≡ outcome.Tried t → t ≡ trial.Rejected r → accepts o ≡ false
+rejected-told p q = rw (p, q)
 
 pub untried-told : (o : Outcome) → OneOf (0 ∷ 1 ∷ []) (tagOf Rattle.decisions.proofs.Outcome.the-type o) → accepts o ≡ false
 untried-told outcome.Failed h = refl
 untried-told outcome.Small h = refl
 untried-told (outcome.Tried t) h = absurd (⊎-elim (λ (q : 2 ≡ 0). omega arith) (λ (q : 2 ≡ 1). omega arith) h)
 
-module _ (job : Job) (s : State) (o : Outcome) (w64 : List Float) (r : Next) (e : r ≡ solved s (job .settings .limit) (job .settings .«cost_tolerance») o) where
-  pub settled-moved : (after : List Float) → accepts o ≡ true → (heldIn job after ≡ triedIn job w64) × (triedIn job after ≡ triedIn job w64) → Settled job s o w64 r after
-  settled-moved after a h = record { answer = e; held = taken _ a (h .0); tried = h .1 }
+module _ {job : Job} {s : State} {o : Outcome} {w64 : List Float} {r : Next} (e : r ≡ solved s (job .settings .limit) (job .settings .«cost_tolerance») o) where
+  pub settled-moved : {after : List Float} → accepts o ≡ true → (heldIn job after ≡ triedIn job w64) × (triedIn job after ≡ triedIn job w64) → Settled job s o w64 r after
+  settled-moved a h = record { answer = e; held = taken _ a (h .0); tried = h .1 }
 
   pub settled-kept : accepts o ≡ false → Settled job s o w64 r w64
   settled-kept a = record { answer = e; held = left _ a refl; tried = refl }
 
-module _ (job : Job) (ends : List ℕ) (edges : List Float) (blocks : List ℕ) (s : State) (before mid after w32 : List Float) (o : Outcome) (r : Next)
-    (a : Attempted job (linksIn job ends edges blocks) (s .cost) (s .damping) before o w32 mid) (b : Settled job s o mid r after) (long : length w32 ≡ need (job .n)) where
-  abbrev l : Links Edge
-  l = linksIn job ends edges blocks
-
+module _ {job : Job} {l : Links Edge} {s : State} {before mid after w32 : List Float} {o : Outcome} {r : Next}
+    (a : Attempted job l (s .cost) (s .damping) before o w32 mid) (b : Settled job s o mid r after) (long : length w32 ≡ need (job .n)) where
   abbrev to : List Float
   to = numerics (partsIn job l) .moved (heldIn job before) (s .damping)
 
@@ -87,7 +70,7 @@ module _ (job : Job) (ends : List ℕ) (edges : List Float) (blocks : List ℕ) 
   beside-by true x e = rw e (beside-same (l .slot) (triedIn job mid))
   beside-by false x e = rw e (a .beside)
 
-  pub solves-again : SolvedAgain job (linksIn job ends edges blocks) s before r w32 after
+  pub solves-again : SolvedAgain job l s before r w32 after
   solves-again =
       record {
         answer = b .answer ∙ ap (solved s (job .settings .limit) (job .settings .«cost_tolerance»)) (a .answer);

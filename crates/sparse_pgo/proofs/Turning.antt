@@ -2,25 +2,21 @@
 use mathlib.Core.Path.{_≡_, refl, sym, ap, _∙_, subst}
 use mathlib.Core.Bool.{Bool, true, false}
 use mathlib.Core.List.{List}
-use Prim.Native.Nat.{ℕ, _+_, _*_, _/_, _<_, _≤_}
+use Prim.Native.Nat.{ℕ, _+_, _<_}
 use native.Mathlib.Nat.{le-refl}
 use native.Mathlib.Omega.{arith}
 use borrow.Author.Tests.{le-ltb, lt-ltb, ne-eqb}
-use lib.Dec.{T, ltb, leb, eqb}
-use lib.ListN.{length, getD}
-use lib.Ieee.{Float, nan, lt}
+use lib.Dec.{ltb, leb, eqb}
+use lib.ListN.{length}
+use lib.Ieee.{Float}
 use Rattle.numbers.specs.Notation.{if-then}
-use Rattle.numbers.proofs.Choices.{taken, left}
+use Rattle.numbers.proofs.Choices.{left}
 use Rattle.graph.specs.Graph.{Links}
 use Rattle.graph.specs.declared.Edge.{Edge}
-use Rattle.graph.specs.declared.Slot.{Slot}
 use Rattle.solve.specs.Work.{need}
-use Rattle.decisions.specs.Damping.{most, increased}
-use Rattle.decisions.specs.Run.{relative, heard, iterations, oneMore, afterFailed, afterAccepted, afterRejected, failing, accepting, rejecting, solved, assembled, passed, turned}
+use Rattle.decisions.specs.Run.{heard, iterations, oneMore, afterAccepted, failing, accepting, rejecting, solved, assembled, passed}
 use Rattle.decisions.specs.Machine.{movedOn, stateOf}
 use Rattle.decisions.specs.declared.State.{State}
-use Rattle.decisions.specs.declared.Reason.{Reason}
-use Rattle.decisions.specs.declared.Trial.{Trial}
 use Rattle.decisions.specs.declared.Trial.the-variants as trial
 use Rattle.decisions.specs.declared.Assembly.{Assembly}
 use Rattle.decisions.specs.declared.Assembly.the-variants as assembly
@@ -35,8 +31,8 @@ use Rattle.decisions.specs.declared.Next.{Next}
 use Rattle.decisions.specs.declared.Next.the-variants as next
 use Rattle.decisions.proofs.Ways.{turned-stop, turned-go, passed-again}
 use Rattle.sparse_pgo.specs.declared.Job.{Job}
-use Rattle.sparse_pgo.specs.Parts.{numerics, assemblyOf}
-use Rattle.sparse_pgo.specs.Turns.{partsIn, heldIn, triedIn, linksIn, Beside, Holds, accepts, Attempted, Settled, Made, SolvedAgain, Turned}
+use Rattle.sparse_pgo.specs.Parts.{numerics}
+use Rattle.sparse_pgo.specs.Turns.{partsIn, heldIn, triedIn, Beside, Holds, accepts, Made, SolvedAgain, Turned}
 
 -- ---- the state after a solve: one more accepted exactly where the trial was, and then the system is to be assembled
 
@@ -96,10 +92,7 @@ module _ (limit : ℕ) (tolerance : Float) (s : State) where
 
 -- ---- a turn
 
-module _ (job : Job) (ends : List ℕ) (edges : List Float) (blocks : List ℕ) (s : State) (before : List Float) where
-  abbrev l : Links Edge
-  l = linksIn job ends edges blocks
-
+module _ (job : Job) (l : Links Edge) (s : State) (before : List Float) where
   abbrev limit : ℕ
   limit = job .settings .limit
 
@@ -113,7 +106,7 @@ module _ (job : Job) (ends : List ℕ) (edges : List Float) (blocks : List ℕ) 
   abbrev a : Assembly
   a = numerics (partsIn job l) .assemble x
 
-  module _ (w32 : List Float) (long : length w32 ≡ need (job .n)) (b : Beside (linksIn job ends edges blocks .slot) (heldIn job before) (triedIn job before)) where
+  module _ (w32 : List Float) (long : length w32 ≡ need (job .n)) (b : Beside (l .slot) (heldIn job before) (triedIn job before)) where
     -- the top stops the run, and nothing has moved
     stops : (e : End) → passed limit s a ≡ gate.Stop e → Turned job l s before (next.Over s e) w32 before
     unfolding movedOn
@@ -126,11 +119,11 @@ module _ (job : Job) (ends : List ℕ) (edges : List Float) (blocks : List ℕ) 
           holds = λ t r f. let z : _≡_ {A = ℕ} 0 1 = cc in absurd (omega arith);
         }
 
-    pub turn-limit : s .fresh ≡ true → leb (job .settings .limit) (iterations s) ≡ true → Turned job (linksIn job ends edges blocks) s before (next.Over s (end.Stopped why.Budget)) w32 before
+    pub turn-limit : s .fresh ≡ true → leb (job .settings .limit) (iterations s) ≡ true → Turned job l s before (next.Over s (end.Stopped why.Budget)) w32 before
     turn-limit f q = stops (end.Stopped why.Budget) (limit-stops limit tolerance s a f q)
 
   -- a solve follows the top
-  module _ (few : s .accepted < 4294967295) (w32 after : List Float) (r : Next) (h : SolvedAgain job (linksIn job ends edges blocks) s before r w32 after) where
+  module _ (few : s .accepted < 4294967295) {w32 after : List Float} {r : Next} (h : SolvedAgain job l s before r w32 after) where
     abbrev o : Outcome
     o = heard (s .cost) (numerics (partsIn job l) .attempt x (s .damping))
 
@@ -151,11 +144,11 @@ module _ (job : Job) (ends : List ℕ) (edges : List Float) (blocks : List ℕ) 
               subst (λ (z : List Float). Holds job l z w32) y (h .holds k);
         }
 
-    pub turn-again : s .fresh ≡ false → Turned job (linksIn job ends edges blocks) s before r w32 after
+    pub turn-again : s .fresh ≡ false → Turned job l s before r w32 after
     turn-again f = solves (passed-again limit tolerance s a f)
 
   -- after an assembly
-  module _ (w32 : List Float) (made : Assembly) (g : Gate) (m : Made job (linksIn job ends edges blocks) (heldIn job before) made w32) (q : g ≡ passed (job .settings .limit) s made) where
+  module _ {w32 : List Float} {made : Assembly} {g : Gate} (m : Made job l (heldIn job before) made w32) (q : g ≡ passed (job .settings .limit) s made) where
     made-is : made ≡ a
     unfolding numerics
     made-is = m .answer
@@ -163,13 +156,13 @@ module _ (job : Job) (ends : List ℕ) (edges : List Float) (blocks : List ℕ) 
     passing : passed limit s a ≡ g
     passing = ap (passed limit s) (sym made-is) ∙ sym q
 
-    pub turn-stop : (e : End) → g ≡ gate.Stop e → Beside (linksIn job ends edges blocks .slot) (heldIn job before) (triedIn job before)
-        → Turned job (linksIn job ends edges blocks) s before (next.Over s e) w32 before
-    turn-stop e k b = stops w32 (m .long) b e (passing ∙ k)
+    pub turn-stop : {e : End} → g ≡ gate.Stop e → Beside (l .slot) (heldIn job before) (triedIn job before)
+        → Turned job l s before (next.Over s e) w32 before
+    turn-stop {e} k b = stops _ (m .long) b e (passing ∙ k)
 
-    pub turn-holds : s .fresh ≡ true → g ≡ gate.Go → Holds job (linksIn job ends edges blocks) (heldIn job before) w32
+    pub turn-holds : s .fresh ≡ true → g ≡ gate.Go → Holds job l (heldIn job before) w32
     turn-holds f k = m .holds (go-steep limit tolerance s made f (sym q ∙ k))
 
-    pub turn-go : s .accepted < 4294967295 → g ≡ gate.Go → (w32' after : List Float) (r : Next) → SolvedAgain job (linksIn job ends edges blocks) s before r w32' after
-        → Turned job (linksIn job ends edges blocks) s before r w32' after
-    turn-go few k w32' after r h = solves few w32' after r h (passing ∙ k)
+    pub turn-go : s .accepted < 4294967295 → g ≡ gate.Go → {w32' after : List Float} {r : Next} → SolvedAgain job l s before r w32' after
+        → Turned job l s before r w32' after
+    turn-go few k h = solves few h (passing ∙ k)

@@ -1,5 +1,6 @@
-use Rattle.sparse_pgo.proofs.Assembling.{assemble-bad, assemble-short, assemble-flat, assemble-steep}
 use denote.Ref.{now}
+use Rattle.assembly.proofs.Walked.{lent-fits}
+use Rattle.sparse_pgo.proofs.Assembling.{assemble-bad, assemble-short, assemble-flat, assemble-steep}
 use borrow.Author.Needs.{needs}
 use Rattle.sparse_pgo.proofs.assemble.Statement.{statement}
 use Rattle.sparse_pgo.proofs.assemble.Tie as tie
@@ -48,28 +49,32 @@ same-length c = search needs
 
 returns : tie.Need-returns
 returns c =
-    let a = c .before .before .before .before .before .before .before .before .before .before .before .args in let p = c .before .before .before .before .before .before .before .before .before .before .before .pre in assemble-bad (a .job) (now (a .ends)) (now (a .edges)) (now (a .blocks)) (now (a .poses)) (now (a .w32)) _ _ p (c .before .before .before .before .before .build-normal-system-with-mapping .ensures) (c .before .before .before .before .before .build-normal-system-with-mapping .kept .0) _ _ (c .before .made .given .1)
+    assemble-bad _ _ (now (c .before .before .before .before .before .before .before .before .before .before .before .args .w32)) (c .before .before .before .before .before .before .before .before .before .before .before .pre) (c .before .before .before .before .before .build-normal-system-with-mapping .ensures) (c .before .before .before .before .before .build-normal-system-with-mapping .kept .0) (c .before .made .given .1)
 
 same-length-2 : tie.Need-same-length-2
 same-length-2 c = search needs
 
 returns-2 : tie.Need-returns-2
 returns-2 c =
-    let a = c .before .before .before .before .before .before .before .before .before .before .args in let p = c .before .before .before .before .before .before .before .before .before .before .pre in assemble-short (a .job) (now (a .ends)) (now (a .edges)) (now (a .blocks)) (now (a .poses)) (now (a .w32)) _ _ p (c .before .before .before .before .build-normal-system-with-mapping .ensures) (c .before .before .before .before .build-normal-system-with-mapping .kept .0) (c .enum-told .given .1)
+    assemble-short _ _ (now (c .before .before .before .before .before .before .before .before .before .before .args .w32)) (c .before .before .before .before .before .before .before .before .before .before .pre) (c .before .before .before .before .build-normal-system-with-mapping .ensures) (c .before .before .before .before .build-normal-system-with-mapping .kept .0) (c .enum-told .given .1)
 
 same-length-3 : tie.Need-same-length-3
 same-length-3 c = search needs
 
 returns-3 : tie.Need-returns-3
 returns-3 c =
-    let a = c .before .before .before .before .before .before .before .before .before .before .before .before .before .before .before .before .args in let p = c .before .before .before .before .before .before .before .before .before .before .before .before .before .before .before .before .pre in assemble-flat (a .job) (now (a .ends)) (now (a .edges)) (now (a .blocks)) (now (a .poses)) (now (a .w32)) _ _ p (c .before .before .before .before .before .before .before .before .before .before .build-normal-system-with-mapping .ensures) (c .before .before .before .before .before .before .before .before .before .before .build-normal-system-with-mapping .kept .0) (c .before .before .before .before .before .before .enum-told2 .given .1) _ _ (c .before .before .before .l2-norm .ensures) (c .before .widen .ensures) (c .if1 .taken)
+    assemble-flat _ _ (now (c .before .before .before .before .before .before .before .before .before .before .before .before .before .before .before .before .args .w32)) (c .before .before .before .before .before .before .before .before .before .before .before .before .before .before .before .before .pre) (c .before .before .before .before .before .before .before .before .before .before .build-normal-system-with-mapping .ensures) (c .before .before .before .before .before .before .before .before .before .before .build-normal-system-with-mapping .kept .0)
+    (c .before .before .before .before .before .before .enum-told2 .given .1) (c .before .before .before .l2-norm .ensures) (c .before .widen .ensures) (c .if1 .taken)
 
 same-length-4 : tie.Need-same-length-4
 same-length-4 c = search needs
 
 returns-4 : tie.Need-returns-4
 returns-4 c =
-    let a = c .before .before .before .before .before .before .before .before .before .before .before .before .before .before .before .before .args in let p = c .before .before .before .before .before .before .before .before .before .before .before .before .before .before .before .before .pre in assemble-steep (a .job) (now (a .ends)) (now (a .edges)) (now (a .blocks)) (now (a .poses)) (now (a .w32)) _ _ p (c .before .before .before .before .before .before .before .before .before .before .build-normal-system-with-mapping .ensures) (c .before .before .before .before .before .before .before .before .before .before .build-normal-system-with-mapping .kept .0) (c .before .before .before .before .before .before .enum-told2 .given .1) _ _ (c .before .before .before .l2-norm .ensures) (c .before .widen .ensures) (c .if1 .left)
+    let a = c .before .before .before .before .before .before .before .before .before .before .before .before .before .before .before .before .args in
+    assemble-steep _ _ (now (c .before .before .before .before .before .before .before .before .before .before .before .before .before .before .before .before .args .w32)) (c .before .before .before .before .before .before .before .before .before .before .before .before .before .before .before .before .pre) (c .before .before .before .before .before .before .before .before .before .before .build-normal-system-with-mapping .ensures) (c .before .before .before .before .before .before .before .before .before .before .build-normal-system-with-mapping .kept .0)
+    (c .before .before .before .before .before .before .enum-told2 .given .1) (c .before .before .before .l2-norm .ensures) (c .before .widen .ensures)
+    (lent-fits (a .job .manifold) (now (a .ends)) (now (a .edges)) (now (a .blocks)) (a .job .free)) (c .if1 .left)
 
 pub assemble-spec : {M : Type 1} → statement M
 assemble-spec =

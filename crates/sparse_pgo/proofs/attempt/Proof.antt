@@ -1,5 +1,5 @@
+use Rattle.sparse_pgo.proofs.Steps.{slot-below}
 use Rattle.sparse_pgo.proofs.Attempts.{no-step-told, attempt-failed, attempt-small, attempt-tried}
-use denote.Ref.{now}
 use borrow.Author.Needs.{needs}
 use Rattle.sparse_pgo.proofs.attempt.Statement.{statement}
 use Rattle.sparse_pgo.proofs.attempt.Tie as tie
@@ -15,7 +15,8 @@ same-length c = search needs
 
 returns : tie.Need-returns
 returns c =
-    let a = c .before .before .before .before .before .before .before .before .before .args in let p = c .before .before .before .before .before .before .before .before .before .pre in attempt-failed (a .job) (now (a .ends)) (now (a .edges)) (now (a .blocks)) (a .s .cost) (a .s .damping) (now (a .w32)) _ (now (a .w64)) _ (p .0) (p .1 .1) (c .before .before .before .solve-damped .ensures) (no-step-told _ (c .match .keys2)) (p .1 .0)
+    let p = c .before .before .before .before .before .before .before .before .before .pre in
+    attempt-failed _ _ (p .0) (p .1 .1) (c .before .before .before .solve-damped .ensures) (no-step-told _ (c .match .keys2)) (p .1 .0)
 
 mul-at : tie.Need-mul-at
 mul-at c = search needs
@@ -49,7 +50,9 @@ same-length-2 c = search needs
 
 returns-2 : tie.Need-returns-2
 returns-2 c =
-    let a = c .before .before .before .before .before .before .before .before .before .before .before .before .before .before .before .args in let p = c .before .before .before .before .before .before .before .before .before .before .before .before .before .before .before .pre in attempt-small (a .job) (now (a .ends)) (now (a .edges)) (now (a .blocks)) (a .s .cost) (a .s .damping) (now (a .w32)) _ (now (a .w64)) _ (p .0) (p .1 .1) (c .before .before .before .before .before .before .before .before .before .solve-damped .ensures) (c .before .before .before .before .before .enum-told .given .1) _ _ (c .before .before .l2-norm .ensures) (c .before .widen .ensures) (c .if1 .taken) (p .1 .0)
+    let p = c .before .before .before .before .before .before .before .before .before .before .before .before .before .before .before .pre in
+    attempt-small _ _ (p .0) (p .1 .1) (c .before .before .before .before .before .before .before .before .before .solve-damped .ensures) (c .before .before .before .before .before .enum-told .given .1)
+    (c .before .before .l2-norm .ensures) (c .before .widen .ensures) (c .if1 .taken) (p .1 .0)
 
 evaluate-trial-requires : tie.Need-evaluate-trial-requires
 evaluate-trial-requires c κs = search needs
@@ -62,7 +65,9 @@ same-length-4 c = search needs
 
 returns-3 : tie.Need-returns-3
 returns-3 c =
-    let a = c .before .before .before .before .before .before .before .before .before .before .before .before .before .before .before .before .before .before .before .before .args in let p = c .before .before .before .before .before .before .before .before .before .before .before .before .before .before .before .before .before .before .before .before .pre in attempt-tried (a .job) (now (a .ends)) (now (a .edges)) (now (a .blocks)) (a .s .cost) (a .s .damping) (now (a .w32)) _ (now (a .w64)) _ (p .0) (p .1 .1) (c .before .before .before .before .before .before .before .before .before .before .before .before .before .before .solve-damped .ensures) (c .before .before .before .before .before .before .before .before .before .before .enum-told .given .1) _ _ (c .before .before .before .before .before .before .before .l2-norm .ensures) (c .before .before .before .before .before .before .widen .ensures) (c .before .before .before .before .before .if1 .left) _ _ (c .before .before .evaluate-trial .ensures)
+    let p = c .before .before .before .before .before .before .before .before .before .before .before .before .before .before .before .before .before .before .before .before .pre in
+    attempt-tried _ _ (p .0) (p .1 .1) (c .before .before .before .before .before .before .before .before .before .before .before .before .before .before .solve-damped .ensures) (c .before .before .before .before .before .before .before .before .before .before .enum-told .given .1)
+    (c .before .before .before .before .before .before .before .l2-norm .ensures) (c .before .before .before .before .before .before .widen .ensures) (slot-below _ _) (c .before .before .before .before .before .if1 .left) (c .before .before .evaluate-trial .ensures)
 
 pub attempt-spec : {M : Type 1} → statement M
 attempt-spec =

@@ -1,13 +1,24 @@
-use lib.ListN.{length}
-use Rattle.sparse_pgo.proofs.Running.{in-lent, in-length, in-beside, begun-joined, begun-refused}
-use lib.Seq.{length-take-le}
-use native.Mathlib.Omega.{arith}
-use mathlib.Core.Logic.{⊎-elim}
-use mathlib.Core.Path.{sym, ap, _∙_}
 use denote.Ref.{now}
+use mathlib.Core.Path.{sym, ap, _∙_}
+use mathlib.Core.List.{_++_}
+use mathlib.Core.Logic.{⊎-elim}
+use Prim.Native.Nat.{_*_}
+use native.Mathlib.Omega.{arith}
+use lib.ListN.{length, drop}
+use lib.Seq.{length-take-le}
+use Rattle.assembly.proofs.Laws.{withPart}
+use Rattle.sparse_pgo.proofs.Running.{BothHalves, copied-in, halves-lent, halves-beside, begun-joined, begun-refused}
 use borrow.Author.Needs.{needs}
 use Rattle.sparse_pgo.proofs.begun.Statement.{statement}
 use Rattle.sparse_pgo.proofs.begun.Tie as tie
+
+-- the poses stand in both halves of the work
+halves : (c : tie.After-copy-numbers2)
+    → let a = c .before .before .before .before .before .before .before .before .before .before .before .before .before .args in
+    BothHalves (a .job) (now (a .poses)) (now (a .w64)) (withPart (a .job .poses * 12) (c .before .before .before .before .copy-numbers .last .1 .0 ++ drop (a .job .poses * 12) (now (a .w64))) (c .copy-numbers2 .last .1 .0))
+halves c =
+    let p = c .before .before .before .before .before .before .before .before .before .before .before .before .before .pre in
+    copied-in _ _ _ _ _ (p .0 .0 .double) (p .1 .0) (c .before .before .before .before .copy-numbers .ensures) (c .copy-numbers2 .ensures)
 
 mul-half : tie.Need-mul-half
 mul-half c = search needs
@@ -17,11 +28,14 @@ slice-relend-prefix-copy-numbers c = search needs
 
 slice-aggregate-copy-numbers : tie.Need-slice-aggregate-copy-numbers
 slice-aggregate-copy-numbers c =
-    let a = c .before .before .before .before .before .before .before .before .args in let p = c .before .before .before .before .before .before .before .before .pre in let d = p .0 .0 .double in sym (length-take-le _ _ (omega arith))
+    let d = c .before .before .before .before .before .before .before .before .pre .0 .0 .double in
+    sym (length-take-le _ _ (omega arith))
 
 copy-numbers-requires : tie.Need-copy-numbers-requires
 copy-numbers-requires c κs =
-    let a = c .before .before .before .before .before .before .before .before .args in let p = c .before .before .before .before .before .before .before .before .pre in let d = p .0 .0 .double in length-take-le _ _ (omega arith) ∙ sym (p .1 .0)
+    let p = c .before .before .before .before .before .before .before .before .pre in
+    let d = p .0 .0 .double in
+    length-take-le _ _ (omega arith) ∙ sym (p .1 .0)
 
 mul-copy-numbers : tie.Need-mul-copy-numbers
 mul-copy-numbers c = search needs
@@ -40,22 +54,36 @@ copy-numbers-requires-2 c κs = search needs
 
 started-requires : tie.Need-started-requires
 started-requires c κs =
-    let a = c .before .before .before .before .before .before .before .before .before .before .before .before .before .before .before .before .before .args in let p = c .before .before .before .before .before .before .before .before .before .before .before .before .before .before .before .before .before .pre in ((in-lent (a .job) (now (a .ends)) (now (a .edges)) (now (a .blocks)) (now (a .poses)) (now (a .w32)) (now (a .w64)) _ _ (p .0 .0) (p .1 .0) (c .before .before .before .before .before .before .before .before .copy-numbers .ensures) (c .before .before .before .before .copy-numbers2 .ensures), p .0 .1), in-beside (a .job) (now (a .ends)) (now (a .edges)) (now (a .blocks)) (now (a .poses)) (now (a .w32)) (now (a .w64)) _ _ (p .0 .0) (p .1 .0) (c .before .before .before .before .before .before .before .before .copy-numbers .ensures) (c .before .before .before .before .copy-numbers2 .ensures))
+    let p = c .before .before .before .before .before .before .before .before .before .before .before .before .before .before .before .before .before .pre in
+    let h = halves (c .before .before .before .before) in
+    ((halves-lent h (p .0 .0), p .0 .1), halves-beside h _)
 
 enum-told : tie.Need-enum-told
 enum-told c = search needs
 
 slice-reshare-prefix-copy-numbers : tie.Need-slice-reshare-prefix-copy-numbers
 slice-reshare-prefix-copy-numbers c =
-    let a = c .before .before .before .before .before .before .before .before .before .before .before .before .before .before .before .before .before .before .before .before .before .before .before .before .args in let p = c .before .before .before .before .before .before .before .before .before .before .before .before .before .before .before .before .before .before .before .before .before .before .before .before .pre in let k = c .before .before .before .before .before .before .started .kept .1 .1 .1 .1 .1 .0 in let m = in-length (a .job) (now (a .ends)) (now (a .edges)) (now (a .blocks)) (now (a .poses)) (now (a .w32)) (now (a .w64)) _ _ (p .0 .0) (p .1 .0) (c .before .before .before .before .before .before .before .before .before .before .before .before .before .before .before .copy-numbers .ensures) (c .before .before .before .before .before .before .before .before .before .before .before .copy-numbers2 .ensures) in let d = p .0 .0 .double in omega arith
+    let p = c .before .before .before .before .before .before .before .before .before .before .before .before .before .before .before .before .before .before .before .before .before .before .before .before .pre in
+    let d = p .0 .0 .double in
+    let m = halves (c .before .before .before .before .before .before .before .before .before .before .before) .long in
+    let k = c .before .before .before .before .before .before .started .kept .1 .1 .1 .1 .1 .0 in
+    omega arith
 
 slice-aggregate-copy-numbers-2 : tie.Need-slice-aggregate-copy-numbers-2
 slice-aggregate-copy-numbers-2 c =
-    let a = c .before .before .before .before .before .before .before .before .before .before .before .before .before .before .before .before .before .before .before .before .before .before .before .before .before .args in let p = c .before .before .before .before .before .before .before .before .before .before .before .before .before .before .before .before .before .before .before .before .before .before .before .before .before .pre in let k = c .before .before .before .before .before .before .before .started .kept .1 .1 .1 .1 .1 .0 in let m = in-length (a .job) (now (a .ends)) (now (a .edges)) (now (a .blocks)) (now (a .poses)) (now (a .w32)) (now (a .w64)) _ _ (p .0 .0) (p .1 .0) (c .before .before .before .before .before .before .before .before .before .before .before .before .before .before .before .before .copy-numbers .ensures) (c .before .before .before .before .before .before .before .before .before .before .before .before .copy-numbers2 .ensures) in let d = p .0 .0 .double in sym (length-take-le _ _ (omega arith))
+    let p = c .before .before .before .before .before .before .before .before .before .before .before .before .before .before .before .before .before .before .before .before .before .before .before .before .before .pre in
+    let d = p .0 .0 .double in
+    let m = halves (c .before .before .before .before .before .before .before .before .before .before .before .before) .long in
+    let k = c .before .before .before .before .before .before .before .started .kept .1 .1 .1 .1 .1 .0 in
+    sym (length-take-le _ _ (omega arith))
 
 copy-numbers-requires-3 : tie.Need-copy-numbers-requires-3
 copy-numbers-requires-3 c κs =
-    let a = c .before .before .before .before .before .before .before .before .before .before .before .before .before .before .before .before .before .before .before .before .before .before .before .before .before .before .args in let p = c .before .before .before .before .before .before .before .before .before .before .before .before .before .before .before .before .before .before .before .before .before .before .before .before .before .before .pre in let k = c .before .before .before .before .before .before .before .before .started .kept .1 .1 .1 .1 .1 .0 in let m = in-length (a .job) (now (a .ends)) (now (a .edges)) (now (a .blocks)) (now (a .poses)) (now (a .w32)) (now (a .w64)) _ _ (p .0 .0) (p .1 .0) (c .before .before .before .before .before .before .before .before .before .before .before .before .before .before .before .before .before .copy-numbers .ensures) (c .before .before .before .before .before .before .before .before .before .before .before .before .before .copy-numbers2 .ensures) in let d = p .0 .0 .double in let s = p .1 .0 in p .1 .1 ∙ s ∙ sym (length-take-le _ _ (omega arith))
+    let p = c .before .before .before .before .before .before .before .before .before .before .before .before .before .before .before .before .before .before .before .before .before .before .before .before .before .before .pre in
+    let d = p .0 .0 .double in
+    let m = halves (c .before .before .before .before .before .before .before .before .before .before .before .before .before) .long in
+    let k = c .before .before .before .before .before .before .before .before .started .kept .1 .1 .1 .1 .1 .0 in
+    p .1 .1 ∙ p .1 .0 ∙ sym (length-take-le _ _ (omega arith))
 
 enum-told-2 : tie.Need-enum-told-2
 enum-told-2 c = search needs
@@ -78,7 +106,15 @@ same-length-3 c =
 
 returns : tie.Need-returns
 returns c =
-    let a = c .before .before .before .before .before .before .before .before .before .before .before .before .before .before .before .before .before .before .before .before .before .before .before .before .before .before .before .before .before .before .before .args in let p = c .before .before .before .before .before .before .before .before .before .before .before .before .before .before .before .before .before .before .before .before .before .before .before .before .before .before .before .before .before .before .before .pre in let s = c .before .before .before .before .before .before .before .before .before .before .before .before .before .started in ⊎-elim (λ w. begun-joined (a .job) (now (a .ends)) (now (a .edges)) (now (a .blocks)) (now (a .poses)) (now (a .w32)) (now (a .w64)) _ _ (p .0 .0) (p .1 .0) (c .before .before .before .before .before .before .before .before .before .before .before .before .before .before .before .before .before .before .before .before .before .before .copy-numbers .ensures) (c .before .before .before .before .before .before .before .before .before .before .before .before .before .before .before .before .before .before .copy-numbers2 .ensures) _ (s .last .1 .1 .1 .1 .0) _ _ _ (now (a .out)) (s .ensures) (c .before .before .before .before .before .before .clear32 .ensures) (c .before .before .clear64 .ensures) (s .kept .1 .1 .1 .1 .0) (s .kept .1 .1 .1 .1 .1 .0) _ _ (w .1 .given .1) (w .7 ∙ w .4 .ensures)) (λ w. begun-refused (a .job) (now (a .ends)) (now (a .edges)) (now (a .blocks)) (now (a .poses)) (now (a .w32)) (now (a .w64)) _ _ (p .0 .0) (p .1 .0) (c .before .before .before .before .before .before .before .before .before .before .before .before .before .before .before .before .before .before .before .before .before .before .copy-numbers .ensures) (c .before .before .before .before .before .before .before .before .before .before .before .before .before .before .before .before .before .before .copy-numbers2 .ensures) _ (s .last .1 .1 .1 .1 .0) _ _ _ (now (a .out)) (s .ensures) (c .before .before .before .before .before .before .clear32 .ensures) (c .before .before .clear64 .ensures) (s .kept .1 .1 .1 .1 .0) (s .kept .1 .1 .1 .1 .1 .0) _ _ (w .1 .given .1) (w .2)) (c .before .before .before .before .before .before .before .before .match .came)
+    let s = c .before .before .before .before .before .before .before .before .before .before .before .before .before .started in
+    let l32 = s .kept .1 .1 .1 .1 .0 in
+    let z32 = c .before .before .before .before .before .before .clear32 .ensures in
+    let z64 = c .before .before .clear64 .ensures in
+    let h = halves (c .before .before .before .before .before .before .before .before .before .before .before .before .before .before .before .before .before .before) in
+    ⊎-elim
+    (λ w. begun-joined h (s .ensures) (s .kept .1 .1 .1 .1 .1 .0) _ (s .last .1 .1 .1 .1 .0) _ _ _ l32 z32 z64 _ _ (w .1 .given .1) (w .7 ∙ w .4 .ensures))
+    (λ w. begun-refused h (s .ensures) (s .kept .1 .1 .1 .1 .1 .0) _ (s .last .1 .1 .1 .1 .0) _ _ _ l32 z32 z64 _ _ (w .1 .given .1) (w .2))
+    (c .before .before .before .before .before .before .before .before .match .came)
 
 pub begun-spec : {M : Type 1} → statement M
 begun-spec =

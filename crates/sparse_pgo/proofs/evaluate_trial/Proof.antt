@@ -1,5 +1,5 @@
-use borrow.Author.Tests.{not-true, not-false}
 use denote.Ref.{now}
+use borrow.Author.Tests.{not-true, not-false}
 use Rattle.sparse_pgo.proofs.Evaluating.{trial-unmoved, trial-priced, trial-unpriced}
 use borrow.Author.Needs.{needs}
 use Rattle.sparse_pgo.proofs.evaluate_trial.Statement.{statement}
@@ -34,7 +34,7 @@ same-length c = search needs
 
 returns : tie.Need-returns
 returns c =
-    let a = c .before .before .before .before .before .before .before .before .before .before .args in trial-unmoved (a .job) (now (a .ends)) (now (a .edges)) (now (a .blocks)) (a .cost) (now (a .w32)) (now (a .w64)) _ _ (c .before .before .before .retract-free .ensures) (not-true _ (c .if1 .taken))
+    trial-unmoved _ _ (now (c .before .before .before .before .before .before .before .before .before .before .args .w32)) (c .before .before .before .retract-free .ensures) (not-true _ (c .if1 .taken))
 
 mul-half : tie.Need-mul-half
 mul-half c = search needs
@@ -69,14 +69,16 @@ same-length-2 c = search needs
 
 returns-2 : tie.Need-returns-2
 returns-2 c =
-    let a = c .before .before .before .before .before .before .before .before .before .before .before .before .before .before .before .before .before .before .args in trial-priced (a .job) (now (a .ends)) (now (a .edges)) (now (a .blocks)) (a .cost) (now (a .w32)) (now (a .w64)) _ _ (c .before .before .before .before .before .before .before .before .before .before .before .retract-free .ensures) (not-false _ (c .before .before .before .before .before .before .before .before .if1 .left)) _ (c .before .before .before .before .active-total-squared-residual-cost .ensures) _ _ (c .before .before .found .given .1) (c .judge .ensures)
+    trial-priced _ _ (now (c .before .before .before .before .before .before .before .before .before .before .before .before .before .before .before .before .before .before .args .w32)) (c .before .before .before .before .before .before .before .before .before .before .before .retract-free .ensures) (not-false _ (c .before .before .before .before .before .before .before .before .if1 .left))
+    (c .before .before .before .before .active-total-squared-residual-cost .ensures) (c .before .before .found .given .1) (c .judge .ensures)
 
 same-length-3 : tie.Need-same-length-3
 same-length-3 c = search needs
 
 returns-3 : tie.Need-returns-3
 returns-3 c =
-    let a = c .before .before .before .before .before .before .before .before .before .before .before .before .before .before .before .before .args in trial-unpriced (a .job) (now (a .ends)) (now (a .edges)) (now (a .blocks)) (a .cost) (now (a .w32)) (now (a .w64)) _ _ (c .before .before .before .before .before .before .before .before .before .retract-free .ensures) (not-false _ (c .before .before .before .before .before .before .if1 .left)) _ (c .before .before .active-total-squared-residual-cost .ensures) _ _ (c .enum-told .given .1)
+    trial-unpriced _ _ (now (c .before .before .before .before .before .before .before .before .before .before .before .before .before .before .before .before .args .w32)) (c .before .before .before .before .before .before .before .before .before .retract-free .ensures) (not-false _ (c .before .before .before .before .before .before .if1 .left))
+    (c .before .before .active-total-squared-residual-cost .ensures) (c .enum-told .given .1)
 
 pub evaluate-trial-spec : {M : Type 1} → statement M
 evaluate-trial-spec =

@@ -1,16 +1,16 @@
-use Rattle.sparse_pgo.proofs.Turning.{turn-again, turn-limit, turn-holds, turn-stop, turn-go}
-use lib.Seq.{length-take-le}
-use borrow.Author.Tests.{not-true, not-false}
-use native.Mathlib.Omega.{arith}
 use mathlib.Core.Path.{sym, _∙_}
-use denote.Ref.{now}
+use native.Mathlib.Omega.{arith}
+use borrow.Author.Tests.{not-true, not-false}
+use lib.Seq.{length-take-le}
+use Rattle.sparse_pgo.proofs.Turning.{turn-again, turn-limit, turn-holds, turn-stop, turn-go}
 use borrow.Author.Needs.{needs}
 use Rattle.sparse_pgo.proofs.one_turn.Statement.{statement}
 use Rattle.sparse_pgo.proofs.one_turn.Tie as tie
 
 solve-again-requires : tie.Need-solve-again-requires
 solve-again-requires c κs =
-    let a = c .before .before .before .before .before .before .before .args in let p = c .before .before .before .before .before .before .before .pre in (p .0 .0, (p .1 .0, p .1 .1 (not-true _ (c .before .before .if1 .taken))))
+    let p = c .before .before .before .before .before .before .before .pre in
+    (p .0 .0, (p .1 .0, p .1 .1 (not-true _ (c .before .before .if1 .taken))))
 
 same-length : tie.Need-same-length
 same-length c = search needs
@@ -20,14 +20,15 @@ same-length-2 c = search needs
 
 returns : tie.Need-returns
 returns c =
-    let a = c .before .before .before .before .before .before .before .before .before .before .before .before .args in let p = c .before .before .before .before .before .before .before .before .before .before .before .before .pre in turn-again (a .job) (now (a .ends)) (now (a .edges)) (now (a .blocks)) (a .s) (now (a .w64)) (p .0 .1) _ _ _ (c .before .before .before .before .solve-again .ensures) (not-true _ (c .before .before .before .before .before .before .before .if1 .taken))
+    turn-again _ _ _ _ (c .before .before .before .before .before .before .before .before .before .before .before .before .pre .0 .1) (c .before .before .before .before .solve-again .ensures) (not-true _ (c .before .before .before .before .before .before .before .if1 .taken))
 
 at-limit-requires : tie.Need-at-limit-requires
 at-limit-requires c κs = search needs
 
 returns-2 : tie.Need-returns-2
 returns-2 c =
-    let a = c .before .before .before .before .before .before .before .before .args in let p = c .before .before .before .before .before .before .before .before .pre in turn-limit (a .job) (now (a .ends)) (now (a .edges)) (now (a .blocks)) (a .s) (now (a .w64)) _ (p .0 .0 .single) (p .1 .0) (not-false _ (c .before .before .before .if1 .left)) (sym (c .before .at-limit .ensures) ∙ c .if2 .taken)
+    let p = c .before .before .before .before .before .before .before .before .pre in
+    turn-limit _ _ _ _ _ (p .0 .0 .single) (p .1 .0) (not-false _ (c .before .before .before .if1 .left)) (sym (c .before .at-limit .ensures) ∙ c .if2 .taken)
 
 mul-half : tie.Need-mul-half
 mul-half c = search needs
@@ -37,7 +38,8 @@ slice-reshare-prefix-assemble c = search needs
 
 slice-aggregate-assemble : tie.Need-slice-aggregate-assemble
 slice-aggregate-assemble c =
-    let p = c .before .before .before .before .before .before .before .before .before .before .pre in let d = p .0 .0 .double in sym (length-take-le _ _ (omega arith))
+    let d = c .before .before .before .before .before .before .before .before .before .before .pre .0 .0 .double in
+    sym (length-take-le _ _ (omega arith))
 
 assemble-requires : tie.Need-assemble-requires
 assemble-requires c κs = search needs
@@ -53,7 +55,11 @@ enum-told c = search needs
 
 solve-again-requires-2 : tie.Need-solve-again-requires-2
 solve-again-requires-2 c κs =
-    let a = c .before .before .before .before .before .before .before .before .before .before .before .before .before .before .before .before .before .before .before .args in let p = c .before .before .before .before .before .before .before .before .before .before .before .before .before .before .before .before .before .before .before .pre in let m = c .before .before .before .before .before .before .before .assemble .ensures in (record { sized = p .0 .0 .sized; single = m .long; double = p .0 .0 .double }, (p .1 .0, turn-holds (a .job) (now (a .ends)) (now (a .edges)) (now (a .blocks)) (a .s) (now (a .w64)) _ _ _ m (c .before .before .before .before .pass-top .ensures) (not-false _ (c .before .before .before .before .before .before .before .before .before .before .before .before .before .before .if1 .left)) (c .before .before .enum-told .given .1)))
+    let p = c .before .before .before .before .before .before .before .before .before .before .before .before .before .before .before .before .before .before .before .pre in
+    let m = c .before .before .before .before .before .before .before .assemble .ensures in (
+      record { sized = p .0 .0 .sized; single = m .long; double = p .0 .0 .double },
+      (p .1 .0, turn-holds _ _ _ _ m (c .before .before .before .before .pass-top .ensures) (not-false _ (c .before .before .before .before .before .before .before .before .before .before .before .before .before .before .if1 .left)) (c .before .before .enum-told .given .1)),
+    )
 
 same-length-3 : tie.Need-same-length-3
 same-length-3 c = search needs
@@ -63,7 +69,7 @@ same-length-4 c = search needs
 
 returns-3 : tie.Need-returns-3
 returns-3 c =
-    let a = c .before .before .before .before .before .before .before .before .before .before .before .before .before .before .before .before .before .before .args in let p = c .before .before .before .before .before .before .before .before .before .before .before .before .before .before .before .before .before .before .pre in turn-stop (a .job) (now (a .ends)) (now (a .edges)) (now (a .blocks)) (a .s) (now (a .w64)) _ _ _ (c .before .before .before .before .before .before .assemble .ensures) (c .before .before .before .pass-top .ensures) _ (c .before .e .given .1) (p .1 .0)
+    turn-stop _ _ _ _ (c .before .before .before .before .before .before .assemble .ensures) (c .before .before .before .pass-top .ensures) (c .before .e .given .1) (c .before .before .before .before .before .before .before .before .before .before .before .before .before .before .before .before .before .before .pre .1 .0)
 
 same-length-5 : tie.Need-same-length-5
 same-length-5 c = search needs
@@ -73,7 +79,7 @@ same-length-6 c = search needs
 
 returns-4 : tie.Need-returns-4
 returns-4 c =
-    let a = c .before .before .before .before .before .before .before .before .before .before .before .before .before .before .before .before .before .before .before .before .before .before .before .before .args in let p = c .before .before .before .before .before .before .before .before .before .before .before .before .before .before .before .before .before .before .before .before .before .before .before .before .pre in turn-go (a .job) (now (a .ends)) (now (a .edges)) (now (a .blocks)) (a .s) (now (a .w64)) _ _ _ (c .before .before .before .before .before .before .before .before .before .before .before .before .assemble .ensures) (c .before .before .before .before .before .before .before .before .before .pass-top .ensures) (p .0 .1) (c .before .before .before .before .before .before .before .enum-told .given .1) _ _ _ (c .before .before .before .before .solve-again2 .ensures)
+    turn-go _ _ _ _ (c .before .before .before .before .before .before .before .before .before .before .before .before .assemble .ensures) (c .before .before .before .before .before .before .before .before .before .pass-top .ensures) (c .before .before .before .before .before .before .before .before .before .before .before .before .before .before .before .before .before .before .before .before .before .before .before .before .pre .0 .1) (c .before .before .before .before .before .before .before .enum-told .given .1) (c .before .before .before .before .solve-again2 .ensures)
 
 pub one-turn-spec : {M : Type 1} → statement M
 one-turn-spec =

@@ -1,11 +1,18 @@
-use Rattle.sparse_pgo.proofs.Border.{run-turned, n-most, need-fits, poses-most, single-fits, double-fits, run-lent, run-startable, run-poses, run-out, run-fit}
-use lib.Seq.{length-take-le}
-use native.Mathlib.Omega.{arith}
-use mathlib.Core.Path.{sym}
 use denote.Ref.{now}
+use mathlib.Core.Path.{sym}
+use native.Mathlib.Omega.{arith}
+use lib.Seq.{length-take-le}
+use Rattle.sparse_pgo.proofs.Border.{Fitted, fitted, n-most, need-fits, poses-most, single-fits, double-fits, poses-length, lentInput, run-turned, run-lent, run-startable, run-fit}
 use borrow.Author.Needs.{needs}
 use Rattle.sparse_pgo.proofs.run.Statement.{statement}
 use Rattle.sparse_pgo.proofs.run.Tie as tie
+
+-- what the checks leave known
+known : (c : tie.After-dof)
+    → let a = c .before .before .before .before .before .before .before .before .before .before .before .before .before .args in
+    Fitted (lentInput (a .manifold) (now (a .poses)) (now (a .ends)) (now (a .edges)) (now (a .fixed)) (a .settings) (now (a .work32)) (now (a .work64)) (now (a .out)))
+    (c .before .before .before .before .before .validate-optimizer-inputs .result) (c .before .before .answer2 .given .0 .0) (c .dof .result)
+known c = fitted _ _ _ _ (c .before .before .before .before .before .validate-optimizer-inputs .ensures) (c .before .before .answer2 .given .1) (c .dof .ensures)
 
 validate-optimizer-inputs-requires : tie.Need-validate-optimizer-inputs-requires
 validate-optimizer-inputs-requires c κs = search needs
@@ -23,47 +30,49 @@ cast-n : tie.Need-cast-n
 cast-n c = search needs
 
 mul-n : tie.Need-mul-n
-mul-n c =
-    let a = c .before .before .before .before .before .before .before .before .before .before .before .before .before .before .args in let h = n-most (a .manifold) (now (a .poses)) (now (a .ends)) (now (a .edges)) (now (a .fixed)) (a .settings) (now (a .work32)) (now (a .work64)) (now (a .out)) _ (c .before .before .before .before .before .before .validate-optimizer-inputs .ensures) _ (c .before .before .before .answer2 .given .1) _ (c .before .dof .ensures) in omega arith
+mul-n c = let h = n-most (known (c .before)) in omega arith
 
 add-n32 : tie.Need-add-n32
-add-n32 c =
-    let a = c .before .before .before .before .before .before .before .before .before .before .before .before .before .before .args in let h = n-most (a .manifold) (now (a .poses)) (now (a .ends)) (now (a .edges)) (now (a .fixed)) (a .settings) (now (a .work32)) (now (a .work64)) (now (a .out)) _ (c .before .before .before .before .before .before .validate-optimizer-inputs .ensures) _ (c .before .before .before .answer2 .given .1) _ (c .before .dof .ensures) in omega arith
+add-n32 c = let h = n-most (known (c .before)) in omega arith
 
 mul-n32 : tie.Need-mul-n32
-mul-n32 c =
-    let a = c .before .before .before .before .before .before .before .before .before .before .before .before .before .before .args in record { fits = need-fits (a .manifold) (now (a .poses)) (now (a .ends)) (now (a .edges)) (now (a .fixed)) (a .settings) (now (a .work32)) (now (a .work64)) (now (a .out)) _ (c .before .before .before .before .before .before .validate-optimizer-inputs .ensures) _ (c .before .before .before .answer2 .given .1) _ (c .before .dof .ensures) }
+mul-n32 c = record { fits = need-fits (known (c .before)) }
 
 mul-n64 : tie.Need-mul-n64
-mul-n64 c =
-    let a = c .before .before .before .before .before .before .before .before .before .before .before .before .before .before .before .args in let h = poses-most (a .manifold) (now (a .poses)) (now (a .ends)) (now (a .edges)) (now (a .fixed)) (a .settings) (now (a .work32)) (now (a .work64)) (now (a .out)) _ (c .before .before .before .before .before .before .before .validate-optimizer-inputs .ensures) _ (c .before .before .before .before .answer2 .given .1) _ (c .before .before .dof .ensures) in omega arith
+mul-n64 c = let h = poses-most (known (c .before .before)) in omega arith
 
 unit-manifold-requires : tie.Need-unit-manifold-requires
 unit-manifold-requires c κs = search needs
 
 slice-relend-prefix-begun : tie.Need-slice-relend-prefix-begun
-slice-relend-prefix-begun c =
-    let a = c .before .before .before .before .before .before .before .before .before .before .before .before .before .before .before .before .before .args in single-fits (a .manifold) (now (a .poses)) (now (a .ends)) (now (a .edges)) (now (a .fixed)) (a .settings) (now (a .work32)) (now (a .work64)) (now (a .out)) _ (c .before .before .before .before .before .before .before .before .before .validate-optimizer-inputs .ensures) _ (c .before .before .before .before .before .before .answer2 .given .1) _ (c .before .before .before .before .dof .ensures)
+slice-relend-prefix-begun c = single-fits (known (c .before .before .before .before))
 
 slice-aggregate-begun : tie.Need-slice-aggregate-begun
-slice-aggregate-begun c =
-    let a = c .before .before .before .before .before .before .before .before .before .before .before .before .before .before .before .before .before .before .args in sym (length-take-le _ _ (single-fits (a .manifold) (now (a .poses)) (now (a .ends)) (now (a .edges)) (now (a .fixed)) (a .settings) (now (a .work32)) (now (a .work64)) (now (a .out)) _ (c .before .before .before .before .before .before .before .before .before .before .validate-optimizer-inputs .ensures) _ (c .before .before .before .before .before .before .before .answer2 .given .1) _ (c .before .before .before .before .before .dof .ensures)))
+slice-aggregate-begun c = sym (length-take-le _ _ (single-fits (known (c .before .before .before .before .before))))
 
 slice-relend-prefix-begun-2 : tie.Need-slice-relend-prefix-begun-2
-slice-relend-prefix-begun-2 c =
-    let a = c .before .before .before .before .before .before .before .before .before .before .before .before .before .before .before .before .before .before .args in double-fits (a .manifold) (now (a .poses)) (now (a .ends)) (now (a .edges)) (now (a .fixed)) (a .settings) (now (a .work32)) (now (a .work64)) (now (a .out)) _ (c .before .before .before .before .before .before .before .before .before .before .validate-optimizer-inputs .ensures) _ (c .before .before .before .before .before .before .before .answer2 .given .1) _ (c .before .before .before .before .before .dof .ensures)
+slice-relend-prefix-begun-2 c = double-fits (known (c .before .before .before .before .before))
 
 slice-aggregate-begun-2 : tie.Need-slice-aggregate-begun-2
-slice-aggregate-begun-2 c =
-    let a = c .before .before .before .before .before .before .before .before .before .before .before .before .before .before .before .before .before .before .before .args in sym (length-take-le _ _ (double-fits (a .manifold) (now (a .poses)) (now (a .ends)) (now (a .edges)) (now (a .fixed)) (a .settings) (now (a .work32)) (now (a .work64)) (now (a .out)) _ (c .before .before .before .before .before .before .before .before .before .before .before .validate-optimizer-inputs .ensures) _ (c .before .before .before .before .before .before .before .before .answer2 .given .1) _ (c .before .before .before .before .before .before .dof .ensures)))
+slice-aggregate-begun-2 c = sym (length-take-le _ _ (double-fits (known (c .before .before .before .before .before .before))))
 
 begun-requires : tie.Need-begun-requires
 begun-requires c κs =
-    let a = c .before .before .before .before .before .before .before .before .before .before .before .before .before .before .before .before .before .before .before .before .args in ((run-lent (a .manifold) (now (a .poses)) (now (a .ends)) (now (a .edges)) (now (a .fixed)) (a .settings) (now (a .work32)) (now (a .work64)) (now (a .out)) _ (c .before .before .before .before .before .before .before .before .before .before .before .before .validate-optimizer-inputs .ensures) _ (c .before .before .before .before .before .before .before .before .before .answer2 .given .1) _ (c .before .before .before .before .before .before .before .dof .ensures) _ (c .before .before .before .before .unit-manifold .ensures), run-startable (a .manifold) (now (a .poses)) (now (a .ends)) (now (a .edges)) (now (a .fixed)) (a .settings) (now (a .work32)) (now (a .work64)) (now (a .out)) _ (c .before .before .before .before .before .before .before .before .before .before .before .before .validate-optimizer-inputs .ensures) _ (c .before .before .before .before .before .before .before .before .before .answer2 .given .1) _ (c .before .before .before .before .before .before .before .dof .ensures) _ (c .before .before .before .before .unit-manifold .ensures)), (run-poses (a .manifold) (now (a .poses)) (now (a .ends)) (now (a .edges)) (now (a .fixed)) (a .settings) (now (a .work32)) (now (a .work64)) (now (a .out)) _ (c .before .before .before .before .before .before .before .before .before .before .before .before .validate-optimizer-inputs .ensures) _ (c .before .before .before .before .before .before .before .before .before .answer2 .given .1) _ (c .before .before .before .before .before .before .before .dof .ensures) _ (c .before .before .before .before .unit-manifold .ensures), run-out (a .manifold) (now (a .poses)) (now (a .ends)) (now (a .edges)) (now (a .fixed)) (a .settings) (now (a .work32)) (now (a .work64)) (now (a .out)) _ (c .before .before .before .before .before .before .before .before .before .before .before .before .validate-optimizer-inputs .ensures) _ (c .before .before .before .before .before .before .before .before .before .answer2 .given .1) _ (c .before .before .before .before .before .before .before .dof .ensures) _ (c .before .before .before .before .unit-manifold .ensures)))
+    let a = c .before .before .before .before .before .before .before .before .before .before .before .before .before .before .before .before .before .before .before .before .args in
+    let f = known (c .before .before .before .before .before .before .before) in
+    let u = c .before .before .before .before .unit-manifold .ensures in (
+      (
+        run-lent (a .manifold) (now (a .poses)) (now (a .ends)) (now (a .edges)) (now (a .fixed)) (a .settings) (now (a .work32)) (now (a .work64)) (now (a .out)) _ _ _ f _ u,
+        run-startable (a .manifold) (now (a .poses)) (now (a .ends)) (now (a .edges)) (now (a .fixed)) (a .settings) (now (a .work32)) (now (a .work64)) (now (a .out)) _ _ _ f _ u,
+      ),
+      (poses-length f, f .passed .graph .out-length),
+    )
 
 returns : tie.Need-returns
 returns c =
-    let a = c .before .before .before .before .before .before .before .before .before .before .before .before .args in run-turned (a .manifold) (now (a .poses)) (now (a .ends)) (now (a .edges)) (now (a .fixed)) (a .settings) (now (a .work32)) (now (a .work64)) (now (a .out)) _ (c .before .before .before .before .validate-optimizer-inputs .ensures) _ (c .before .answer .given .1)
+    let a = c .before .before .before .before .before .before .before .before .before .before .before .before .args in
+    run-turned (a .manifold) (now (a .poses)) (now (a .ends)) (now (a .edges)) (now (a .fixed)) (a .settings) (now (a .work32)) (now (a .work64)) (now (a .out)) _ _
+    (c .before .before .before .before .validate-optimizer-inputs .ensures) (c .before .answer .given .1)
 
 same-length : tie.Need-same-length
 same-length c = search needs
@@ -76,7 +85,9 @@ same-length-3 c = search needs
 
 returns-2 : tie.Need-returns-2
 returns-2 c =
-    let a = c .before .before .before .before .before .before .before .before .before .before .before .before .before .before .before .before .before .before .before .before .before .before .before .before .before .before .before .args in run-fit (a .manifold) (now (a .poses)) (now (a .ends)) (now (a .edges)) (now (a .fixed)) (a .settings) (now (a .work32)) (now (a .work64)) (now (a .out)) _ (c .before .before .before .before .before .before .before .before .before .before .before .before .before .before .before .before .before .before .before .validate-optimizer-inputs .ensures) _ (c .before .before .before .before .before .before .before .before .before .before .before .before .before .before .before .before .answer2 .given .1) _ (c .before .before .before .before .before .before .before .before .before .before .before .before .before .before .dof .ensures) _ (c .before .before .before .before .before .before .before .before .before .before .before .unit-manifold .ensures) _ _ _ _ (c .before .before .before .before .before .before .begun .ensures)
+    let a = c .before .before .before .before .before .before .before .before .before .before .before .before .before .before .before .before .before .before .before .before .before .before .before .before .before .before .before .args in
+    run-fit (a .manifold) (now (a .poses)) (now (a .ends)) (now (a .edges)) (now (a .fixed)) (a .settings) (now (a .work32)) (now (a .work64)) (now (a .out)) _ _ _
+    (known (c .before .before .before .before .before .before .before .before .before .before .before .before .before .before)) _ (c .before .before .before .before .before .before .before .before .before .before .before .unit-manifold .ensures) _ _ _ _ (c .before .before .before .before .before .before .begun .ensures)
 
 pub run-spec : {M : Type 1} → statement M
 run-spec =

@@ -1,6 +1,5 @@
-use Rattle.sparse_pgo.proofs.Settling.{solves-again}
 use mathlib.Core.Path.{_∙_}
-use denote.Ref.{now}
+use Rattle.sparse_pgo.proofs.Settling.{solves-again}
 use borrow.Author.Needs.{needs}
 use Rattle.sparse_pgo.proofs.solve_again.Statement.{statement}
 use Rattle.sparse_pgo.proofs.solve_again.Tie as tie
@@ -19,7 +18,7 @@ same-length-2 c = search needs
 
 returns : tie.Need-returns
 returns c =
-    let a = c .before .before .before .before .before .before .before .before .before .before .before .before .before .before .before .args in let p = c .before .before .before .before .before .before .before .before .before .before .before .before .before .before .before .pre in solves-again (a .job) (now (a .ends)) (now (a .edges)) (now (a .blocks)) (a .s) (now (a .w64)) _ _ _ _ _ (c .before .before .before .before .before .before .before .before .attempt .ensures) (c .before .before .settle .ensures) (c .before .before .before .before .before .before .before .before .attempt .kept .1 .1 .1 .1 .1 .0 ∙ p .0 .single)
+    solves-again (c .before .before .before .before .before .before .before .before .attempt .ensures) (c .before .before .settle .ensures) (c .before .before .before .before .before .before .before .before .attempt .kept .1 .1 .1 .1 .1 .0 ∙ c .before .before .before .before .before .before .before .before .before .before .before .before .before .before .before .pre .0 .single)
 
 pub solve-again-spec : {M : Type 1} → statement M
 solve-again-spec =

@@ -1,10 +1,9 @@
-use Rattle.sparse_pgo.proofs.Running.{counts-fit, start-bad, start-goes}
-use lib.Ieee.{binary32, fits}
-use lib.Seq.{length-take-le}
-use lib.Dec.{T}
-use native.Mathlib.Omega.{arith}
 use mathlib.Core.Path.{sym}
-use denote.Ref.{now}
+use native.Mathlib.Omega.{arith}
+use lib.Dec.{T}
+use lib.Seq.{length-take-le}
+use lib.Ieee.{binary32, fits}
+use Rattle.sparse_pgo.proofs.Running.{counts-fit, start-bad, start-goes}
 use borrow.Author.Needs.{needs}
 use Rattle.sparse_pgo.proofs.started.Statement.{statement}
 use Rattle.sparse_pgo.proofs.started.Tie as tie
@@ -19,7 +18,8 @@ slice-reshare-prefix-active-total-squared-residual-cost c = search needs
 slice-aggregate-active-total-squared-residual-cost :
     tie.Need-slice-aggregate-active-total-squared-residual-cost
 slice-aggregate-active-total-squared-residual-cost c =
-    let d = c .before .before .before .before .before .before .pre .0 .0 .double in sym (length-take-le _ _ (omega arith))
+    let d = c .before .before .before .before .before .before .pre .0 .0 .double in
+    sym (length-take-le _ _ (omega arith))
 
 active-total-squared-residual-cost-requires : tie.Need-active-total-squared-residual-cost-requires
 active-total-squared-residual-cost-requires c κs = search needs
@@ -33,19 +33,19 @@ enum-known-found-2 c = search needs
 iterate-requires : tie.Need-iterate-requires
 iterate-requires c κs = search needs
 
+-- the first damping is an f32
 is-f32 : (c : tie.Start) → T (fits binary32 (c .args .job .settings .damping))
 is-f32 c = search needs
 
 answer-of-requires : tie.Need-answer-of-requires
 answer-of-requires c κs =
-    let a = c .before .before .before .before .before .before .before .before .before .before .before .before .before .before .before .before .before .args in let p = c .before .before .before .before .before .before .before .before .before .before .before .before .before .before .before .before .before .pre in counts-fit (a .job) (now (a .ends)) (now (a .edges)) (now (a .blocks)) (now (a .w64)) _ _ _ (p .0 .1) (is-f32 (c .before .before .before .before .before .before .before .before .before .before .before .before .before .before .before .before .before)) (c .before .before .before .before .iterate .ensures)
+    counts-fit (c .before .before .before .before .before .before .before .before .before .before .before .before .before .before .before .before .before .pre .0 .1) (is-f32 (c .before .before .before .before .before .before .before .before .before .before .before .before .before .before .before .before .before)) (c .before .before .before .before .iterate .ensures)
 
 same-length : tie.Need-same-length
 same-length c = search needs
 
 returns : tie.Need-returns
-returns c =
-    let a = c .before .before .before .before .before .before .before .before .before .before .args in let p = c .before .before .before .before .before .before .before .before .before .before .pre in start-bad (a .job) (now (a .ends)) (now (a .edges)) (now (a .blocks)) (now (a .w64)) _ (c .before .before .before .active-total-squared-residual-cost .ensures) _ _ (c .before .found .given .1)
+returns c = start-bad _ _ _ (c .before .before .before .active-total-squared-residual-cost .ensures) (c .before .found .given .1)
 
 same-length-2 : tie.Need-same-length-2
 same-length-2 c = search needs
@@ -55,7 +55,7 @@ same-length-3 c = search needs
 
 returns-2 : tie.Need-returns-2
 returns-2 c =
-    let a = c .before .before .before .before .before .before .before .before .before .before .before .before .before .before .before .before .before .before .args in let p = c .before .before .before .before .before .before .before .before .before .before .before .before .before .before .before .before .before .before .pre in start-goes (a .job) (now (a .ends)) (now (a .edges)) (now (a .blocks)) (now (a .w64)) _ (c .before .before .before .before .before .before .before .before .before .before .before .active-total-squared-residual-cost .ensures) _ _ _ _ (c .before .before .before .before .before .before .before .before .before .found2 .given .1) (c .before .before .before .before .before .iterate .ensures) (c .answer-of .ensures)
+    start-goes _ _ _ (c .before .before .before .before .before .before .before .before .before .before .before .active-total-squared-residual-cost .ensures) (c .before .before .before .before .before .before .before .before .before .found2 .given .1) (c .before .before .before .before .before .iterate .ensures) (c .answer-of .ensures)
 
 pub started-spec : {M : Type 1} → statement M
 started-spec =

@@ -1,0 +1,97 @@
+-- Demands 1 and 3 of the public promise, for every input. Assumes nothing.
+use mathlib.Core.Path.{_≡_, refl, sym, ap, _∙_}
+use mathlib.Core.Bool.{true}
+use mathlib.Core.List.{List}
+use Prim.Native.Nat.{ℕ, _+_, _*_, _<_, _≤_}
+use native.Mathlib.Omega.{arith}
+use lib.Dec.{T}
+use lib.Ieee.{Float, binary32, lt, fits}
+use Rattle.numbers.specs.Walks.{Ended, done, stopped}
+use Rattle.numbers.specs.declared.Refusal.{Refusal}
+use Rattle.graph.specs.Graph.{freeCount}
+use Rattle.graph.specs.Lent.{Input, graphOf, dofOf}
+use Rattle.graph.specs.Table.{checks}
+use Rattle.graph.specs.declared.Counts.{Counts}
+use Rattle.graph.specs.declared.Checked.the-variants as checked
+use Rattle.graph.specs.declared.Settings.{Settings}
+use Rattle.graph.proofs.Passed.{PassedSettings, fit}
+use Rattle.solve.specs.Work.{need}
+use Rattle.decisions.specs.Demand.{Held}
+use Rattle.decisions.specs.Machine.{Play, played, stateOf}
+use Rattle.decisions.specs.declared.End.the-variants as end
+use Rattle.decisions.specs.declared.Next.{Next}
+use Rattle.decisions.specs.declared.Next.the-variants as next
+use Rattle.decisions.proofs.Machines.{played-held, played-same}
+use Rattle.sparse_pgo.specs.declared.Joined.{Joined}
+use Rattle.sparse_pgo.specs.declared.Answer.{Answer}
+use Rattle.sparse_pgo.specs.declared.Answer.the-variants as answer
+use Rattle.sparse_pgo.specs.Parts.{Parts, numerics, joinedOf, answerOf, wholeFrom, whole}
+use Rattle.sparse_pgo.specs.Optimize.{After, afterChecks, given, ran, zeroed, optimized}
+use Rattle.sparse_pgo.proofs.Looping.{not-above}
+
+-- ---- demand 3, of a run that was joined: what it says of its counts and costs, and of the poses that it came to
+
+pub record Kept {X : Type 0} (limit : ℕ) (given : X) (j : Joined) (held : X) : Type 0 where
+  pub trials : j .iterations ≡ j .accepted + j .rejected
+  pub limited : j .iterations ≤ limit
+  pub raises : j .rejected + j .failed ≤ j .accepted + 55
+  pub lower : 0 < j .accepted → lt (j .«last_cost») (j .«first_cost») ≡ true
+  pub same-cost : j .accepted ≡ 0 → j .«last_cost» ≡ j .«first_cost»
+  pub same-poses : j .accepted ≡ 0 → held ≡ given
+
+module _ {X S D : Type 0} (p : Parts X S D) (set : Settings) (ok : PassedSettings set) (f : T (fits binary32 (set .damping))) (x : X) where
+  kept-next : (c : Float) (y : Play X) (j : Joined) → Held (set .limit) c (stateOf (y .next)) → (stateOf (y .next) .accepted ≡ 0 → y .held ≡ x) → answerOf c (y .next) ≡ answer.Joined j
+      → Kept (set .limit) x j (y .held)
+  kept-next c y j h s = go (y .next) h s
+    where
+      go : (n : Next) → Held (set .limit) c (stateOf n) → (stateOf n .accepted ≡ 0 → y .held ≡ x) → answerOf c n ≡ answer.Joined j → Kept (set .limit) x j (y .held)
+      go (next.On s) h same q = let z : _≡_ {A = ℕ} 0 1 = cc in absurd (omega arith)
+      go (next.Over s (end.Refused r)) h same q = let z : _≡_ {A = ℕ} 0 1 = cc in absurd (omega arith)
+      go (next.Over s (end.Stopped w)) h same q =
+          let e : joinedOf c s w ≡ j = cc in
+          rw (← e) (record { trials = refl; limited = h .trials; raises = h .raises; lower = h .lower; same-cost = h .kept; same-poses = same })
+
+  kept-whole : (j : Joined) → whole p set x .answer ≡ answer.Joined j → Kept (set .limit) x j (whole p set x .held)
+  unfolding whole
+  kept-whole j = go (p .cost x)
+    where
+      go : (e : Ended Float) → wholeFrom p set x e .answer ≡ answer.Joined j → Kept (set .limit) x j (wholeFrom p set x e .held)
+      go (stopped k why c) q = let z : _≡_ {A = ℕ} 0 1 = cc in absurd (omega arith)
+      go (done c) q =
+          kept-next c (played (numerics p) (set .limit) (set .«cost_tolerance») c (set .damping) x) j
+          (played-held (numerics p) (set .limit) (set .«cost_tolerance») c (set .damping) x (ok .most-limit) f (ok .damping-above) (not-above (set .damping) (ok .damping-above) (ok .damping-most)))
+          (played-same (numerics p) (set .limit) (set .«cost_tolerance») c (set .damping) x)
+          q
+
+-- ---- of the public promise
+
+module _ (i : Input) (work32 work64 out : List Float) where
+  -- demand 1, rows 1 to 19: that refusal, and every lent number as it was
+  pub demand-one-before : (r : Refusal) → checks i .answer ≡ checked.Turned r → optimized i work32 work64 out ≡ record { answer = answer.Refused r; work32 = work32; work64 = work64; out = out }
+  unfolding optimized
+  demand-one-before r e = rw e
+
+  module _ (c : Counts) (e : checks i .answer ≡ checked.Fit c) where
+    began : optimized i work32 work64 out ≡ afterChecks i work32 work64 out (checked.Fit c)
+    unfolding optimized
+    began = ap (afterChecks i work32 work64 out) e
+
+    answered : {a : Answer} → optimized i work32 work64 out .answer ≡ a → ran i .answer ≡ a
+    answered h = ap (λ (y : After). y .answer) (sym began) ∙ h
+
+    come-out : {a : Answer} → optimized i work32 work64 out .answer ≡ a → optimized i work32 work64 out .out ≡ given out (ran i) a
+    come-out h = ap (λ (y : After). y .out) began ∙ ap (given out (ran i)) (answered h)
+
+    -- rows 20 to 22: the output is as found
+    pub demand-one-after : (r : Refusal) → optimized i work32 work64 out .answer ≡ answer.Refused r → optimized i work32 work64 out .out ≡ out
+    demand-one-after r h = come-out h
+
+    -- after a run that began, the needed work holds +0, and the rest is as found
+    pub demand-one-work : (optimized i work32 work64 out .work32 ≡ zeroed (need (dofOf (i .manifold) * freeCount (graphOf i))) work32) × (optimized i work32 work64 out .work64 ≡ zeroed (24 * graphOf i .poses) work64)
+    demand-one-work = (ap (λ (y : After). y .work32) began, ap (λ (y : After). y .work64) began)
+
+    -- demand 3, for a first damping that is an f32
+    pub demand-three : T (fits binary32 (i .settings .damping)) → (j : Joined) → optimized i work32 work64 out .answer ≡ answer.Joined j
+        → Kept (i .settings .limit) (i .poses) j (optimized i work32 work64 out .out)
+    unfolding ran
+    demand-three f j h = rw (come-out h) (kept-whole _ (i .settings) (fit i c e .0 .settings) f (i .poses) j (answered h))
