@@ -1,0 +1,84 @@
+//! Times the port beside the original, same process, same inputs, runs taken in turn: `bench [ROUNDS]`.
+//! Medians and their ratio are printed, with what each figure means.
+
+mod graphs;
+mod timing;
+
+use std::process::ExitCode;
+
+use graphs::{ring_of_fifty, thousand_edges};
+use restated::case::Case;
+use timing::{medians, milliseconds, Pair};
+
+const ROUNDS: usize = 9;
+
+fn main() -> ExitCode {
+    let arguments: Vec<String> = std::env::args().skip(1).collect();
+    match rounds(&arguments) {
+        Ok(rounds) => {
+            bench(rounds);
+            ExitCode::SUCCESS
+        }
+        Err(line) => {
+            eprintln!("bench [ROUNDS]: {line}");
+            ExitCode::from(2)
+        }
+    }
+}
+
+fn rounds(arguments: &[String]) -> Result<usize, String> {
+    match arguments {
+        [] => Ok(ROUNDS),
+        [text] => match text.parse() {
+            Ok(rounds) if rounds > 0 => Ok(rounds),
+            _ => Err(format!("ROUNDS is not a number above 0: {text}")),
+        },
+        _ => Err("too many arguments".into()),
+    }
+}
+
+const MEANING: &str = "\
+What the numbers mean: medians in milliseconds over interleaved runs, port and original in one process on one machine.
+assembly: the graph's checks, Jacobians, gradient and Hessian, once, at the first poses. The original's is the code of
+  sparse_pgo.rs as it stands over stand-in rotations (document 01's f64 arithmetic), so the two do the same arithmetic.
+whole run: checks to output. The original solves by the stand-in of faer, which is document 01's dense rule and no
+  sparse solver: the ratio compares two programs under the same rules, and says nothing about the real faer.
+solves: one damped solve of the first system, by the stand-in's dense rule on one side and the port's solve on the other.
+The original makes its lists on the heap; the port writes into lent work, allocated before the clock starts.";
+
+fn bench(rounds: usize) {
+    println!("{MEANING}\n");
+    let cases = [
+        ("ring of 50 views, 6 loop edges", ring_of_fifty()),
+        ("64 free poses, 1,000 edges", thousand_edges()),
+    ];
+    for (name, case) in &cases {
+        let sizes = format!("{} edges, n = {}", case.edge_count(), case.unknowns());
+        println!("{name} ({sizes}); {}", answer_line(case));
+        line("assembly", medians(rounds, &timing::Assembly::new(case)));
+        line("solve", medians(rounds, &timing::Solve::new(case)));
+        line("whole run", medians(rounds, &timing::Whole::new(case)));
+        println!();
+    }
+}
+
+/// The port's answer, and whether the original's poses have the same bits.
+fn answer_line(case: &Case) -> String {
+    let whole = timing::Whole::new(case);
+    let (number, answer) = whole.answer();
+    let counts = format!(
+        "iterations {}, A {}, R {}, F {}, stop {}",
+        answer[2], answer[4], answer[5], answer[6], answer[7]
+    );
+    match (number, whole.agrees()) {
+        (0, true) => format!("{counts}, poses as the original's"),
+        (0, false) => format!("{counts}, POSES DIFFER FROM THE ORIGINAL'S"),
+        _ => format!("refused {number} at {}", answer[1]),
+    }
+}
+
+fn line(name: &str, pair: Pair) {
+    let (port, original) = (milliseconds(pair.port), milliseconds(pair.original));
+    let ratio = port / original;
+    println!("  {name:<10} port {port:>10.3} ms   original {original:>10.3} ms   port/original {ratio:.2}");
+}

@@ -1,0 +1,167 @@
+//! The kinds of cases, how many of each an N asks for, and how one is checked.
+
+use restated::case::Case;
+use restated::faults::faulty;
+use restated::forced::forced;
+use restated::graphs::{any_gravity, far, grid, large, ring};
+use restated::layers::NAMES;
+use restated::limits::limits;
+use restated::random::Random;
+use restated::samples::samples;
+use restated::wild::wild;
+
+use crate::assembly::check_assembly;
+use crate::decide;
+use crate::layers::check_layer;
+use crate::lengths::check_lengths;
+use crate::runs::{check_forced, check_run};
+use crate::tally::{Checked, Tally};
+
+pub struct Kind {
+    pub name: &'static str,
+    pub count: fn(usize) -> usize,
+    /// None where the index is past a fixed list's end.
+    pub check: fn(&mut Random, usize, &mut Tally) -> Option<Checked>,
+}
+
+const fn kind(
+    name: &'static str,
+    count: fn(usize) -> usize,
+    check: fn(&mut Random, usize, &mut Tally) -> Option<Checked>,
+) -> Kind {
+    Kind { name, count, check }
+}
+
+/// One kind for each layer: the layer's number is the const.
+fn layered<const NUMBER: usize>(r: &mut Random, _: usize, _: &mut Tally) -> Option<Checked> {
+    Some(check_layer(r, NUMBER))
+}
+
+/// New kinds go last: a kind's place is part of its cases' seed.
+pub fn kinds() -> Vec<Kind> {
+    let mut list = run_kinds();
+    list.extend(piece_kinds());
+    list.extend(layer_kinds());
+    list.push(kind("lengths", |_| 1, |_, _, _| Some(check_lengths())));
+    list.push(kind(
+        "large",
+        |n| n / 20 + 1,
+        |r, _, t| graph(r, t, large, false),
+    ));
+    list.push(kind(
+        "gravity-large",
+        |n| n / 20 + 1,
+        |r, _, t| graph(r, t, large, true),
+    ));
+    list
+}
+
+fn run_kinds() -> Vec<Kind> {
+    vec![
+        kind("ring", |n| n, |r, _, t| graph(r, t, ring, false)),
+        kind("grid", |n| n, |r, _, t| graph(r, t, grid, false)),
+        kind("far", |n| n, |r, _, t| graph(r, t, far, false)),
+        kind("wild", |n| n, |r, _, t| graph(r, t, wild, false)),
+        kind("faulty", |n| n, fault),
+        kind("gravity-ring", |n| n, |r, _, t| graph(r, t, ring, true)),
+        kind("gravity-grid", |n| n, |r, _, t| graph(r, t, grid, true)),
+        kind("gravity-far", |n| n, |r, _, t| graph(r, t, far, true)),
+        kind("gravity-wild", |n| n, |r, _, t| graph(r, t, wild, true)),
+        kind("samples", |_| samples().len(), sample),
+        kind(
+            "limits",
+            |_| limits(&mut Random::of_case(1, 1, 1)).len(),
+            limit,
+        ),
+    ]
+}
+
+fn piece_kinds() -> Vec<Kind> {
+    vec![
+        kind("hooks", |n| n, hook),
+        kind("decide", |n| 20 * n, decide::check_random),
+        kind("assembly", |n| n, assembly),
+    ]
+}
+
+fn layer_kinds() -> Vec<Kind> {
+    let many: fn(usize) -> usize = |n| 20 * n;
+    vec![
+        kind(NAMES[0], many, layered::<0>),
+        kind(NAMES[1], many, layered::<1>),
+        kind(NAMES[2], many, layered::<2>),
+        kind(NAMES[3], many, layered::<3>),
+        kind(NAMES[4], many, layered::<4>),
+        kind(NAMES[5], many, layered::<5>),
+        kind(NAMES[6], many, layered::<6>),
+        kind(NAMES[7], many, layered::<7>),
+        kind(NAMES[8], many, layered::<8>),
+        kind(NAMES[9], many, layered::<9>),
+        kind(NAMES[10], many, layered::<10>),
+        kind(NAMES[11], many, layered::<11>),
+    ]
+}
+
+fn fault(r: &mut Random, index: usize, t: &mut Tally) -> Option<Checked> {
+    let case = faulty(r, index);
+    Some(check_run(r, &case, t))
+}
+
+fn hook(r: &mut Random, _: usize, t: &mut Tally) -> Option<Checked> {
+    let (case, forced) = forced(r);
+    Some(check_forced(&case, &forced, t))
+}
+
+type Maker = fn(&mut Random, Option<[f64; 3]>) -> Case;
+
+fn graph(r: &mut Random, t: &mut Tally, make: Maker, gravity: bool) -> Option<Checked> {
+    let gravity = gravity.then(|| any_gravity(r));
+    let case = make(r, gravity);
+    Some(check_run(r, &case, t))
+}
+
+/// A sample of document 01, also against what the page itself says.
+fn sample(r: &mut Random, index: usize, t: &mut Tally) -> Option<Checked> {
+    let (case, said) = samples().into_iter().nth(index)?;
+    let mut checked = check_run(r, &case, t);
+    let e = restated::expect::expected(&case);
+    let differs = |said: Option<u32>, got: u32| said.is_some_and(|said| said != got);
+    let cost = said.first_cost.map(f32::to_bits);
+    if differs(said.number, e.answer[0])
+        || differs(said.iterations, e.answer[2])
+        || differs(said.stop, e.answer[7])
+        || cost.is_some_and(|cost| e.costs.is_none_or(|costs| costs[0].to_bits() != cost))
+    {
+        checked
+            .lines
+            .push(format!("document 01 says {said:?}, got {:?}", e.answer));
+    }
+    Some(checked)
+}
+
+fn limit(r: &mut Random, index: usize, t: &mut Tally) -> Option<Checked> {
+    let (case, number) = limits(&mut Random::of_case(1, 1, 1))
+        .into_iter()
+        .nth(index)?;
+    let mut checked = check_run(r, &case, t);
+    let refused = restated::table::refused(&case).map_or(0, |refusal| refusal.number);
+    if refused != number {
+        checked
+            .lines
+            .push(format!("the limit asks {number}, the table says {refused}"));
+    }
+    Some(checked)
+}
+
+/// Graphs of every kind, faulty ones among them, for assembly alone.
+fn assembly(r: &mut Random, index: usize, _: &mut Tally) -> Option<Checked> {
+    let gravity = r.one_in(2).then(|| any_gravity(r));
+    let case = match r.below(5) {
+        0 => ring(r, gravity),
+        1 => grid(r, gravity),
+        2 => far(r, gravity),
+        3 => wild(r, gravity),
+        _ => faulty(r, index),
+    };
+    Some(check_assembly(r, case))
+}

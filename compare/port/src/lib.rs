@@ -1,0 +1,222 @@
+//! The port's exported functions behind safe ones: a slice crosses as pointer and length, a number as itself.
+//! The exports assume nothing of lengths, so the wrappers test none.
+
+mod ffi;
+
+/// What comes back for a slice of another length than named, with nothing changed.
+pub const UNFIT: u32 = u32::MAX;
+
+/// What a run reads.
+#[derive(Copy, Clone)]
+pub struct Inputs<'a> {
+    pub poses: &'a [f64],
+    pub ends: &'a [u32],
+    pub edges: &'a [f32],
+    pub fixed: &'a [u32],
+    pub limit: u32,
+    pub cost_tolerance: f32,
+    pub gradient_tolerance: f32,
+    pub damping: f32,
+}
+
+/// What a run writes.
+pub struct Lent<'a> {
+    pub work32: &'a mut [f32],
+    pub work64: &'a mut [f64],
+    pub out: &'a mut [f64],
+    pub answer: &'a mut [u32],
+    pub costs: &'a mut [f32],
+}
+
+/// The slices as pointer and length, one after the other.
+macro_rules! lend {
+    ($call:path [$($before:expr),*] $i:ident $l:ident) => {
+        // SAFETY: every pointer comes with its slice's own length, and the slices live through the call.
+        unsafe {
+            $call(
+                $($before,)*
+                $i.poses.as_ptr(), $i.poses.len(),
+                $i.ends.as_ptr(), $i.ends.len(),
+                $i.edges.as_ptr(), $i.edges.len(),
+                $i.fixed.as_ptr(), $i.fixed.len(),
+                $i.limit, $i.cost_tolerance, $i.gradient_tolerance, $i.damping,
+                $l.work32.as_mut_ptr(), $l.work32.len(),
+                $l.work64.as_mut_ptr(), $l.work64.len(),
+                $l.out.as_mut_ptr(), $l.out.len(),
+                $l.answer.as_mut_ptr(), $l.answer.len(),
+                $l.costs.as_mut_ptr(), $l.costs.len(),
+            )
+        }
+    };
+}
+
+pub fn optimize(i: Inputs, l: Lent) -> u32 {
+    lend!(ffi::pgo_optimize [] i l)
+}
+
+pub fn optimize_with_gravity(g: [f64; 3], i: Inputs, l: Lent) -> u32 {
+    lend!(ffi::pgo_optimize_with_gravity [g[0], g[1], g[2]] i l)
+}
+
+/// A prepared list and the settings it is decided under.
+#[derive(Copy, Clone)]
+pub struct Decisions<'a> {
+    pub limit: u32,
+    pub tolerance: f32,
+    pub cost: f32,
+    pub damping: f32,
+    pub events: &'a [u32],
+    pub prices: &'a [f32],
+}
+
+pub fn decide(d: Decisions, answer: &mut [u32], costs: &mut [f32]) -> u32 {
+    // SAFETY: every pointer comes with its slice's own length.
+    unsafe {
+        ffi::pgo_decide(
+            d.limit,
+            d.tolerance,
+            d.cost,
+            d.damping,
+            d.events.as_ptr(),
+            d.events.len(),
+            d.prices.as_ptr(),
+            d.prices.len(),
+            answer.as_mut_ptr(),
+            answer.len(),
+            costs.as_mut_ptr(),
+            costs.len(),
+        )
+    }
+}
+
+pub fn narrow(x: f64) -> f32 {
+    // SAFETY: numbers only.
+    unsafe { ffi::pgo_narrow(x) }
+}
+
+pub fn sqrt32(x: f32) -> f32 {
+    // SAFETY: numbers only.
+    unsafe { ffi::pgo_sqrt32(x) }
+}
+
+pub fn sqrt64(x: f64) -> f64 {
+    // SAFETY: numbers only.
+    unsafe { ffi::pgo_sqrt64(x) }
+}
+
+pub fn quaternion_of_matrix(m: &[f32], out: &mut [f32]) -> u32 {
+    // SAFETY: every pointer comes with its slice's own length.
+    unsafe { ffi::pgo_quaternion_of_matrix(m.as_ptr(), m.len(), out.as_mut_ptr(), out.len()) }
+}
+
+pub fn product(a: &[f32], b: &[f32], out: &mut [f32]) -> u32 {
+    // SAFETY: every pointer comes with its slice's own length.
+    unsafe {
+        ffi::pgo_product(
+            a.as_ptr(),
+            a.len(),
+            b.as_ptr(),
+            b.len(),
+            out.as_mut_ptr(),
+            out.len(),
+        )
+    }
+}
+
+pub fn inverse(a: &[f32], out: &mut [f32]) -> u32 {
+    // SAFETY: every pointer comes with its slice's own length.
+    unsafe { ffi::pgo_inverse(a.as_ptr(), a.len(), out.as_mut_ptr(), out.len()) }
+}
+
+pub fn exp(delta: &[f32], out: &mut [f32]) -> u32 {
+    // SAFETY: every pointer comes with its slice's own length.
+    unsafe { ffi::pgo_exp(delta.as_ptr(), delta.len(), out.as_mut_ptr(), out.len()) }
+}
+
+pub fn log(t: &[f32], out: &mut [f32]) -> u32 {
+    // SAFETY: every pointer comes with its slice's own length.
+    unsafe { ffi::pgo_log(t.as_ptr(), t.len(), out.as_mut_ptr(), out.len()) }
+}
+
+pub fn retract(pose: &[f64], delta: &[f32], out: &mut [f64]) -> u32 {
+    // SAFETY: every pointer comes with its slice's own length.
+    unsafe {
+        ffi::pgo_retract(
+            pose.as_ptr(),
+            pose.len(),
+            delta.as_ptr(),
+            delta.len(),
+            out.as_mut_ptr(),
+            out.len(),
+        )
+    }
+}
+
+pub fn retract_with_gravity(g: &[f64], pose: &[f64], delta: &[f32], out: &mut [f64]) -> u32 {
+    // SAFETY: every pointer comes with its slice's own length.
+    unsafe {
+        ffi::pgo_retract_with_gravity(
+            g.as_ptr(),
+            g.len(),
+            pose.as_ptr(),
+            pose.len(),
+            delta.as_ptr(),
+            delta.len(),
+            out.as_mut_ptr(),
+            out.len(),
+        )
+    }
+}
+
+pub fn residual(a: &[f64], b: &[f64], edge: &[f32], out: &mut [f32]) -> u32 {
+    // SAFETY: every pointer comes with its slice's own length.
+    unsafe {
+        ffi::pgo_residual(
+            a.as_ptr(),
+            a.len(),
+            b.as_ptr(),
+            b.len(),
+            edge.as_ptr(),
+            edge.len(),
+            out.as_mut_ptr(),
+            out.len(),
+        )
+    }
+}
+
+pub fn solve(work: &mut [f32], n: u32, damping: f32) -> u32 {
+    // SAFETY: the pointer comes with its slice's own length.
+    unsafe { ffi::pgo_solve(work.as_mut_ptr(), work.len(), n, damping) }
+}
+
+/// What assembly reads.
+#[derive(Copy, Clone)]
+pub struct Assembly<'a> {
+    pub dof: u32,
+    pub gravity: &'a [f64],
+    pub poses: &'a [f64],
+    pub ends: &'a [u32],
+    pub edges: &'a [f32],
+    pub fixed: &'a [u32],
+}
+
+pub fn assemble(a: Assembly, work: &mut [f32]) -> u32 {
+    // SAFETY: every pointer comes with its slice's own length.
+    unsafe {
+        ffi::pgo_assemble(
+            a.dof,
+            a.gravity.as_ptr(),
+            a.gravity.len(),
+            a.poses.as_ptr(),
+            a.poses.len(),
+            a.ends.as_ptr(),
+            a.ends.len(),
+            a.edges.as_ptr(),
+            a.edges.len(),
+            a.fixed.as_ptr(),
+            a.fixed.len(),
+            work.as_mut_ptr(),
+            work.len(),
+        )
+    }
+}

@@ -1,0 +1,34 @@
+//! What assembly alone must give: the refusal's number, or the needed work in the layout of DESIGN.md.
+
+use original_hooked as rust;
+
+use crate::case::Case;
+use crate::table::refused_graph;
+
+/// The number of rows 1 to 14 or 21, or the needed work as it must be.
+pub fn assembled(case: &Case) -> Result<Vec<f32>, u32> {
+    if let Some(refusal) = refused_graph(case) {
+        return Err(refusal.number);
+    }
+    let owned = case.owned();
+    let blocks = rust::blocks(owned.hooked()).expect("what the table lets pass, the original does");
+    let system = rust::assemble(case.axis(), &owned.poses, &owned.edges, &blocks);
+    system.map(|system| laid_out(case, &system)).map_err(|_| 21)
+}
+
+/// H(i,j), j ≤ i, at j·n+i; the gradient at n·n+n+i; the rest +0.
+fn laid_out(case: &Case, system: &rust::System) -> Vec<f32> {
+    let (dof, n) = (case.dof(), case.unknowns());
+    let mut work = vec![0.0; n * (n + 3)];
+    for ((block_row, block_column), block) in system.blocks() {
+        for (at, value) in block.iter().enumerate() {
+            let i = block_row * dof + at / dof;
+            let j = block_column * dof + at % dof;
+            if j <= i {
+                work[j * n + i] = *value;
+            }
+        }
+    }
+    work[n * n + n..n * n + 2 * n].copy_from_slice(system.gradient());
+    work
+}

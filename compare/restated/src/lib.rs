@@ -1,0 +1,38 @@
+//! What the port adds to the Rust, stated once more in Rust from document 01: the refusal table, the decisions,
+//! the counts and the stop reasons; and the random inputs that the programs of this workspace share.
+
+pub mod assembly;
+pub mod case;
+pub mod decide;
+pub mod expect;
+pub mod faults;
+pub mod forced;
+pub mod graphs;
+pub mod layer_inputs;
+pub mod layers;
+pub mod limits;
+pub mod lists;
+pub mod places;
+pub mod random;
+pub mod run;
+pub mod samples;
+pub mod table;
+pub mod wild;
+
+/// Equal bits, or both NaN.
+pub fn same32(a: f32, b: f32) -> bool {
+    a.to_bits() == b.to_bits() || (a.is_nan() && b.is_nan())
+}
+
+/// Equal bits, or both NaN.
+pub fn same64(a: f64, b: f64) -> bool {
+    a.to_bits() == b.to_bits() || (a.is_nan() && b.is_nan())
+}
+
+pub fn all_same32(a: &[f32], b: &[f32]) -> bool {
+    a.len() == b.len() && a.iter().zip(b).all(|(a, b)| same32(*a, *b))
+}
+
+pub fn all_same64(a: &[f64], b: &[f64]) -> bool {
+    a.len() == b.len() && a.iter().zip(b).all(|(a, b)| same64(*a, *b))
+}

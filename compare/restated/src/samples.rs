@@ -1,0 +1,149 @@
+//! Document 01's sample joins that are whole runs, with the numbers that the page gives.
+
+use crate::case::Case;
+
+/// What the page says of a sample; none where it is silent.
+#[derive(Clone, Debug, Default)]
+pub struct Said {
+    pub number: Option<u32>,
+    pub first_cost: Option<f32>,
+    pub iterations: Option<u32>,
+    pub stop: Option<u32>,
+}
+
+/// Pose 0 fixed at identity, pose 1 at (1,0,0), no turn anywhere, one edge from 0 to 1.
+pub fn two_poses(measured: f32, weight: f32) -> Case {
+    let pose = |x: f64| [1.0, 0.0, 0.0, 0.0, 1.0, 0.0, 0.0, 0.0, 1.0, x, 0.0, 0.0];
+    let mut case = Case {
+        gravity: None,
+        poses: [pose(0.0), pose(1.0)].concat(),
+        ends: vec![0, 1],
+        edges: vec![0.0, 0.0, 0.0, 1.0, measured, 0.0, 0.0, weight],
+        fixed: vec![0],
+        limit: 30,
+        cost_tolerance: 1e-6,
+        gradient_tolerance: 1e-6,
+        damping: 1e-3,
+        work32: 0,
+        work64: 0,
+        out: 0,
+    };
+    case.fit();
+    case
+}
+
+fn costs(first_cost: f32) -> Said {
+    Said {
+        number: Some(0),
+        first_cost: Some(first_cost),
+        ..Said::default()
+    }
+}
+
+fn number(number: u32) -> Said {
+    Said {
+        number: Some(number),
+        ..Said::default()
+    }
+}
+
+/// The sample with one thing changed.
+fn but(case: &Case, change: impl Fn(&mut Case)) -> Case {
+    let mut changed = case.clone();
+    change(&mut changed);
+    changed
+}
+
+pub fn samples() -> Vec<(Case, Said)> {
+    let plain = two_poses(1.0, 1.0);
+    let mut list = vec![
+        (
+            plain.clone(),
+            Said {
+                iterations: Some(0),
+                stop: Some(2),
+                ..costs(0.0)
+            },
+        ),
+        (two_poses(2.0, 1.0), costs(1.0)),
+        (two_poses(2.0, 0.5), costs(0.25)),
+        (but(&plain, |c| c.limit = 1000), number(0)),
+        (but(&plain, |c| c.limit = 1001), number(16)),
+        (but(&plain, |c| c.work32 -= 1), number(14)),
+        (but(&plain, |c| c.work64 -= 1), number(14)),
+    ];
+    list.extend(zero_weights());
+    list.extend(far_poses(&plain));
+    list.extend(with_gravity(&list));
+    list
+}
+
+fn zero_weights() -> Vec<(Case, Said)> {
+    let case = but(&two_poses(2.0, 0.0), |c| c.gradient_tolerance = 0.0);
+    let said = Said {
+        iterations: Some(0),
+        stop: Some(3),
+        ..costs(0.0)
+    };
+    let loose = but(&case, |c| {
+        c.fixed.clear();
+        c.fit();
+    });
+    vec![(case, said.clone()), (loose, said)]
+}
+
+/// A pose at 1e300: refused 20 if an active edge names it, harmless otherwise.
+fn far_poses(plain: &Case) -> Vec<(Case, Said)> {
+    let named = but(plain, |c| c.poses[21] = 1e300);
+    let idle = but(plain, |c| {
+        c.poses.extend_from_within(12..24);
+        c.poses[33] = 1e300;
+        c.fit();
+    });
+    let fixed_to_fixed = but(&idle, |c| {
+        c.ends.extend([0, 2]);
+        c.edges.extend_from_within(0..8);
+        c.fixed.push(2);
+    });
+    vec![
+        (named, number(20)),
+        (idle, costs(0.0)),
+        (fixed_to_fixed, costs(0.0)),
+    ]
+}
+
+/// The same as gravity runs; short work stays one short.
+fn with_gravity(list: &[(Case, Said)]) -> Vec<(Case, Said)> {
+    let turn = |(case, said): &(Case, Said)| {
+        let short = (case.need32() - case.work32, case.need64() - case.work64);
+        let case = but(case, |c| {
+            c.gravity = Some([0.0, 0.0, -9.81]);
+            c.fit();
+            c.work32 -= short.0;
+            c.work64 -= short.1;
+        });
+        (case, said.clone())
+    };
+    list.iter().map(turn).collect()
+}
+
+#[cfg(test)]
+mod tests {
+    use super::*;
+    use crate::expect::expected;
+
+    #[test]
+    fn the_original_gives_what_document_01_says() {
+        for (i, (case, said)) in samples().iter().enumerate() {
+            let e = expected(case);
+            assert!(e.doubts.is_empty(), "{i}: {:?}", e.doubts);
+            let costs = e.costs.unwrap_or([f32::NAN; 2]);
+            assert_eq!(said.number.unwrap_or(e.answer[0]), e.answer[0], "{i}");
+            assert_eq!(said.iterations.unwrap_or(e.answer[2]), e.answer[2], "{i}");
+            assert_eq!(said.stop.unwrap_or(e.answer[7]), e.answer[7], "{i}");
+            if let Some(first) = said.first_cost {
+                assert_eq!(first.to_bits(), costs[0].to_bits(), "{i}");
+            }
+        }
+    }
+}
