@@ -1,15 +1,38 @@
 // The functions that a host program links: slices cross as pointer and length, numbers as themselves. A slice of another length than named gets
 // 4294967295 back, and nothing is changed; elsewhere 0 means done.
 ghost use mathlib.Core.Path.{_≡_};
-ghost use Prim.Native.Nat.{_+_, _<_};
 ghost use mathlib.Core.List.{[], _∷_};
+ghost use Prim.Native.Nat.{_+_, _*_, _<_, _≤_};
+ghost use lib.Dec.{eqb};
 ghost use lib.ListN.{length};
+ghost use Rattle.numbers.specs.Notation.{num, if-then};
 ghost use Rattle.numbers.specs.Numbers.{narrowed, root32, root64};
+ghost use Rattle.numbers.specs.Refusals.{verdict};
 ghost use Rattle.rotations.specs.Rotation.{vec};
+ghost use Rattle.graph.specs.Lent.{lent, dofOf, poseAt, lentLinks};
+ghost use Rattle.graph.specs.Table.{settingRows};
 ghost use Rattle.residual.specs.Residuals.{sixOf};
+ghost use Rattle.solve.specs.Work.{need};
+ghost use Rattle.assembly.specs.Assembly.{assembledEnds};
+ghost use Rattle.decisions.specs.Run.{iterations};
+ghost use Rattle.decisions.specs.Machine.{stateOf};
+ghost use Rattle.sparse_pgo.specs.Parts.{hasConverged, answerOf};
+ghost use Rattle.sparse_pgo.specs.Optimize.{optimized};
 ghost use Rattle.exports.specs.Layers.{at, matrixFrom, transformFrom, quatNumbers, transformNumbers, poseNumbers, three};
 ghost use Rattle.exports.specs.Layers.{quaternionOut, productOut, inverseOut, logOut, expOut, retractOut, retractGravityOut, residualOut, solveOut};
+ghost use Rattle.exports.specs.Exported.{stopNumber, flag, place32, told, settings, lists, roomOf, exported};
+ghost use Rattle.exports.specs.Exported.{decidedAs, decideFrom, known, decided, assembling, systemOut, systemOf, assembleOut};
+use assembly::Assembled;
+use decisions::End;
+use decisions::Next;
+use decisions::State;
+use decisions::Why;
+use graph::Checked;
 use graph::Manifold;
+use graph::Room;
+use graph::Settings;
+use numbers::Refusal;
+use numbers::Verdict;
 use pose_conversion::Restored;
 use residual::Residual;
 use rotations::Mat3F32;
@@ -21,6 +44,8 @@ use rotations::Twist;
 use rotations::Vec3;
 use rotations::Vec3F32;
 use solve::Solved;
+use sparse_pgo::Answer;
+use sparse_pgo::Joined;
 
 const UNFIT: u32 = 4294967295;
 
@@ -312,4 +337,458 @@ pub extern "C" fn pgo_solve(work: &mut [f32], n: u32, damping: f32) -> u32
         Solved::Failed => 1,
         Solved::Short => UNFIT,
     }
+}
+
+// ---- answers as numbers
+
+fn give_counts(to: &mut [u32], from: &[u32])
+    requires { ⌜ length (now to) ≡ length (now from) ⌝ }
+    ensures { λ _. ⌜ now (to .exit) ≡ now (from .entry) ⌝ }
+{
+    let mut i = 0usize;
+    while i < to.len() {
+        to[i] = from[i];
+        i += 1;
+    }
+}
+
+fn place_of(place: usize) -> u32
+    ensures { λ r. ⌜ r ≡ place32 place ⌝ }
+{
+    if place < 0x1_0000_0000 {
+        return place as u32;
+    }
+    4294967295
+}
+
+fn stop_number(w: Why) -> u32
+    ensures { λ r. ⌜ r ≡ stopNumber w ⌝ }
+{
+    match w {
+        Why::Budget => 1,
+        Why::Gradient => 2,
+        Why::Step => 3,
+        Why::Cost => 4,
+        Why::Damping => 5,
+    }
+}
+
+fn flag_of(b: bool) -> u32
+    ensures { λ r. ⌜ r ≡ flag b ⌝ }
+{
+    if b { 1 } else { 0 }
+}
+
+fn put_joined(answer: &mut [u32], costs: &mut [f32], j: Joined)
+    requires { ⌜ (length (now answer) ≡ 8) × (length (now costs) ≡ 2) ⌝ }
+    ensures { λ _. ⌜ (0, now (answer .exit), now (costs .exit)) ≡ told (now (costs .entry)) (Answer.Joined j) ⌝ }
+{
+    let why = j.why;
+    let stop = stop_number(why);
+    let converged = flag_of(j.converged);
+    give_counts(
+        answer,
+        &[
+            0,
+            0,
+            j.iterations,
+            converged,
+            j.accepted,
+            j.rejected,
+            j.failed,
+            stop,
+        ],
+    );
+    give32(costs, &[j.first_cost, j.last_cost]);
+}
+
+fn put_refused(answer: &mut [u32], r: Refusal)
+    requires { ⌜ length (now answer) ≡ 8 ⌝ }
+    ensures { λ _. ⌜ now (answer .exit) ≡ r .number ∷ place32 (r .place) ∷ 0 ∷ 0 ∷ 0 ∷ 0 ∷ 0 ∷ 0 ∷ [] ⌝ }
+{
+    give_counts(answer, &[r.number, place_of(r.place), 0, 0, 0, 0, 0, 0]);
+}
+
+fn put_answer(answer: &mut [u32], costs: &mut [f32], a: Answer) -> u32
+    requires { ⌜ (length (now answer) ≡ 8) × (length (now costs) ≡ 2) ⌝ }
+    ensures { λ r. ⌜ (r, now (answer .exit), now (costs .exit)) ≡ told (now (costs .entry)) a ⌝ }
+{
+    match a {
+        Answer::Joined(j) => {
+            put_joined(answer, costs, j);
+            0
+        }
+        Answer::Refused(r) => {
+            put_refused(answer, r);
+            r.number
+        }
+    }
+}
+
+// ---- the runs
+
+fn run_on(
+    m: Manifold,
+    poses: &[f64],
+    ends: &[u32],
+    edges: &[f32],
+    fixed: &[u32],
+    set: Settings,
+    work32: &mut [f32],
+    work64: &mut [f64],
+    out: &mut [f64],
+) -> Answer
+    ensures { λ r. ⌜ record { answer = r; work32 = now (work32 .exit); work64 = now (work64 .exit); out = now (out .exit) } ≡ optimized (lent m (now (poses .entry)) (now (ends .entry)) (now (edges .entry)) (now (fixed .entry)) set record { work32 = length (now (work32 .entry)); work64 = length (now (work64 .entry)); out = length (now (out .entry)) }) (now (work32 .entry)) (now (work64 .entry)) (now (out .entry)) ⌝ }
+{
+    match m {
+        Manifold::Se3 => sparse_pgo::optimize(poses, ends, edges, fixed, set, work32, work64, out),
+        Manifold::Gravity(g) => sparse_pgo::optimize_with_gravity(
+            g,
+            poses,
+            ends,
+            edges,
+            fixed,
+            set,
+            work32,
+            work64,
+            out,
+        ),
+    }
+}
+
+fn run(
+    m: Manifold,
+    poses: &[f64],
+    ends: &[u32],
+    edges: &[f32],
+    fixed: &[u32],
+    set: Settings,
+    work32: &mut [f32],
+    work64: &mut [f64],
+    out: &mut [f64],
+    answer: &mut [u32],
+    costs: &mut [f32],
+) -> u32
+    ensures { λ r. ⌜ (r, lists (now (work32 .exit)) (now (work64 .exit)) (now (out .exit)) (now (answer .exit)) (now (costs .exit))) ≡ exported (lent m (now (poses .entry)) (now (ends .entry)) (now (edges .entry)) (now (fixed .entry)) set (roomOf (lists (now (work32 .entry)) (now (work64 .entry)) (now (out .entry)) (now (answer .entry)) (now (costs .entry))))) (lists (now (work32 .entry)) (now (work64 .entry)) (now (out .entry)) (now (answer .entry)) (now (costs .entry))) ⌝ }
+{
+    if !((answer.len() == 8) & (costs.len() == 2)) {
+        return UNFIT;
+    }
+    let a = run_on(m, poses, ends, edges, fixed, set, work32, work64, out);
+    put_answer(answer, costs, a)
+}
+
+// Six degrees of freedom a pose. answer: number, place, iterations, converged, A, R, F, stop; costs: first, last.
+#[no_mangle]
+pub extern "C" fn pgo_optimize(
+    poses: &[f64],
+    ends: &[u32],
+    edges: &[f32],
+    fixed: &[u32],
+    limit: u32,
+    cost_tolerance: f32,
+    gradient_tolerance: f32,
+    damping: f32,
+    work32: &mut [f32],
+    work64: &mut [f64],
+    out: &mut [f64],
+    answer: &mut [u32],
+    costs: &mut [f32],
+) -> u32
+    ensures { λ r. ⌜ (r, lists (now (work32 .exit)) (now (work64 .exit)) (now (out .exit)) (now (answer .exit)) (now (costs .exit))) ≡ exported (lent Manifold.Se3 (now (poses .entry)) (now (ends .entry)) (now (edges .entry)) (now (fixed .entry)) (settings limit «cost_tolerance» «gradient_tolerance» damping) (roomOf (lists (now (work32 .entry)) (now (work64 .entry)) (now (out .entry)) (now (answer .entry)) (now (costs .entry))))) (lists (now (work32 .entry)) (now (work64 .entry)) (now (out .entry)) (now (answer .entry)) (now (costs .entry))) ⌝ }
+{
+    let set = Settings {
+        limit,
+        cost_tolerance,
+        gradient_tolerance,
+        damping,
+    };
+    run(
+        Manifold::Se3,
+        poses,
+        ends,
+        edges,
+        fixed,
+        set,
+        work32,
+        work64,
+        out,
+        answer,
+        costs,
+    )
+}
+
+// Four degrees of freedom a pose, gravity as given.
+#[no_mangle]
+pub extern "C" fn pgo_optimize_with_gravity(
+    gx: f64,
+    gy: f64,
+    gz: f64,
+    poses: &[f64],
+    ends: &[u32],
+    edges: &[f32],
+    fixed: &[u32],
+    limit: u32,
+    cost_tolerance: f32,
+    gradient_tolerance: f32,
+    damping: f32,
+    work32: &mut [f32],
+    work64: &mut [f64],
+    out: &mut [f64],
+    answer: &mut [u32],
+    costs: &mut [f32],
+) -> u32
+    ensures { λ r. ⌜ (r, lists (now (work32 .exit)) (now (work64 .exit)) (now (out .exit)) (now (answer .exit)) (now (costs .exit))) ≡ exported (lent (Manifold.Gravity (vec gx gy gz)) (now (poses .entry)) (now (ends .entry)) (now (edges .entry)) (now (fixed .entry)) (settings limit «cost_tolerance» «gradient_tolerance» damping) (roomOf (lists (now (work32 .entry)) (now (work64 .entry)) (now (out .entry)) (now (answer .entry)) (now (costs .entry))))) (lists (now (work32 .entry)) (now (work64 .entry)) (now (out .entry)) (now (answer .entry)) (now (costs .entry))) ⌝ }
+{
+    let set = Settings {
+        limit,
+        cost_tolerance,
+        gradient_tolerance,
+        damping,
+    };
+    let m = Manifold::Gravity(Vec3 {
+        x: gx,
+        y: gy,
+        z: gz,
+    });
+    run(
+        m,
+        poses,
+        ends,
+        edges,
+        fixed,
+        set,
+        work32,
+        work64,
+        out,
+        answer,
+        costs,
+    )
+}
+
+// ---- the decisions over a prepared list
+
+fn has_converged(w: Why) -> bool
+    ensures { λ r. ⌜ r ≡ hasConverged w ⌝ }
+{
+    match w {
+        Why::Budget => false,
+        Why::Gradient => true,
+        Why::Step => true,
+        Why::Cost => true,
+        Why::Damping => false,
+    }
+}
+
+fn answer_from(first: f32, s: State, e: End) -> Answer
+    requires { ⌜ iterations s < 4294967296 ⌝ }
+    ensures { λ r. ⌜ r ≡ answerOf first (Next.Over s e) ⌝ }
+{
+    match e {
+        End::Refused(r) => Answer::Refused(r),
+        End::Stopped(w) => Answer::Joined(Joined {
+            iterations: s.accepted + s.rejected,
+            converged: has_converged(w),
+            accepted: s.accepted,
+            rejected: s.rejected,
+            failed: s.failed,
+            first_cost: first,
+            last_cost: s.cost,
+            why: w,
+        }),
+    }
+}
+
+fn put_next(answer: &mut [u32], costs: &mut [f32], first: f32, n: Next) -> u32
+    requires { ⌜ (length (now answer) ≡ 8) × (length (now costs) ≡ 2) × (iterations (stateOf n) < 4294967296) ⌝ }
+    ensures { λ r. ⌜ (r, now (answer .exit), now (costs .exit)) ≡ decidedAs first (now (answer .entry)) (now (costs .entry)) n ⌝ }
+{
+    match n {
+        Next::On(_) => 1,
+        Next::Over(s, e) => put_answer(answer, costs, answer_from(first, s, e)),
+    }
+}
+
+// The decisions where the settings pass their checks.
+fn decide(
+    set: Settings,
+    cost: f32,
+    events: &[u32],
+    prices: &[f32],
+    answer: &mut [u32],
+    costs: &mut [f32],
+) -> u32
+    requires { ⌜ (length (now answer) ≡ 8) × (length (now costs) ≡ 2) × (verdict (settingRows set) ≡ Verdict.Fine) ⌝ }
+    ensures { λ r. ⌜ (r, now (answer .exit), now (costs .exit)) ≡ decideFrom set cost (now (events .entry)) (now (prices .entry)) (now (answer .entry)) (now (costs .entry)) Verdict.Fine ⌝ }
+{
+    let n = decisions::drive(
+        set.limit,
+        set.cost_tolerance,
+        cost,
+        set.damping,
+        events,
+        prices,
+    );
+    put_next(answer, costs, cost, n)
+}
+
+// Whether all are events: 0 to 6.
+fn known_events(events: &[u32]) -> bool
+    ensures { λ r. ⌜ r ≡ known (now (events .entry)) (length (now (events .entry))) ⌝ }
+{
+    let mut good = true;
+    let mut i = 0usize;
+    while i < events.len() {
+        good = good & (events[i] <= 6);
+        i += 1;
+    }
+    good
+}
+
+#[no_mangle]
+pub extern "C" fn pgo_decide(
+    limit: u32,
+    tolerance: f32,
+    cost: f32,
+    damping: f32,
+    events: &[u32],
+    prices: &[f32],
+    answer: &mut [u32],
+    costs: &mut [f32],
+) -> u32
+    ensures { λ r. ⌜ (r, now (answer .exit), now (costs .exit)) ≡ decided (settings limit tolerance (num 0) damping) cost (now (events .entry)) (now (prices .entry)) (now (answer .entry)) (now (costs .entry)) ⌝ }
+{
+    let good = known_events(events);
+    if !((answer.len() == 8) & ((costs.len() == 2) & ((events.len() == prices.len()) & good))) {
+        return UNFIT;
+    }
+    let set = Settings {
+        limit,
+        cost_tolerance: tolerance,
+        gradient_tolerance: 0.0,
+        damping,
+    };
+    if let Verdict::Refused(r) = graph::validate_settings(set) {
+        put_refused(answer, r);
+        return r.number;
+    }
+    decide(set, cost, events, prices, answer, costs)
+}
+
+// ---- an assembly alone
+
+// The system in all of the work, which stays as found where an edge can't be assembled. `system` is scratch.
+fn build_over(
+    m: Manifold,
+    poses: &[f64],
+    ends: &[u32],
+    edges: &[f32],
+    blocks: &[u32; 256],
+    free: u32,
+    system: &mut [f32],
+    work: &mut [f32],
+) -> u32
+    requires { ⌜ (length (now work) ≡ need (dofOf m * free)) × (length (now work) ≤ length (now system)) ⌝ }
+    ensures { λ r. ⌜ (r, now (work .exit)) ≡ systemOut (dofOf m * free) (now (work .entry)) (assembledEnds m (dofOf m * free) (lentLinks (now (ends .entry)) (now (edges .entry)) (now (blocks .entry)) free) (poseAt (now (poses .entry))) []) ⌝ }
+{
+    let count = work.len();
+    let made = assembly::build_normal_system_with_mapping(
+        &mut system[..count],
+        m,
+        poses,
+        ends,
+        edges,
+        blocks,
+        free,
+    );
+    match made {
+        Assembled::Done => {
+            give32(work, &system[..count]);
+            0
+        }
+        Assembled::Bad { edge: _, why: _ } => 21,
+        Assembled::Short => 21,
+    }
+}
+
+// 64 free poses of six take 148608 numbers.
+fn build(
+    m: Manifold,
+    poses: &[f64],
+    ends: &[u32],
+    edges: &[f32],
+    blocks: &[u32; 256],
+    free: u32,
+    work: &mut [f32],
+) -> u32
+    requires { ⌜ (length (now work) ≡ need (dofOf m * free)) × (length (now work) ≤ 148608) ⌝ }
+    ensures { λ r. ⌜ (r, now (work .exit)) ≡ systemOut (dofOf m * free) (now (work .entry)) (assembledEnds m (dofOf m * free) (lentLinks (now (ends .entry)) (now (edges .entry)) (now (blocks .entry)) free) (poseAt (now (poses .entry))) []) ⌝ }
+{
+    let mut system = [0.0f32; 148608];
+    build_over(m, poses, ends, edges, blocks, free, &mut system, work)
+}
+
+fn assemble(
+    m: Manifold,
+    poses: &[f64],
+    ends: &[u32],
+    edges: &[f32],
+    fixed: &[u32],
+    work: &mut [f32],
+) -> u32
+    ensures { λ r. ⌜ (r, now (work .exit)) ≡ systemOf (assembling m (now (poses .entry)) (now (ends .entry)) (now (edges .entry)) (now (fixed .entry)) (now (work .entry))) (now (work .entry)) ⌝ }
+{
+    let room = Room {
+        work32: work.len(),
+        work64: 18446744073709551615,
+        out: poses.len(),
+    };
+    let checks = graph::validate_pose_graph(m, poses, ends, edges, fixed, room);
+    let answer = checks.answer;
+    let blocks = checks.blocks;
+    match answer {
+        Checked::Turned(r) => r.number,
+        Checked::Fit(c) => {
+            let n = graph::dof(m) * (c.free as usize);
+            let count = n * (n + 3);
+            build(
+                residual::unit_manifold(m),
+                poses,
+                ends,
+                edges,
+                &blocks,
+                c.free,
+                &mut work[..count],
+            )
+        }
+    }
+}
+
+fn manifold_of(dof: u32, g: Vec3) -> Manifold
+    ensures { λ r. ⌜ r ≡ if-then (eqb dof 6) Manifold.Se3 (Manifold.Gravity g) ⌝ }
+{
+    if dof == 6 {
+        return Manifold::Se3;
+    }
+    Manifold::Gravity(g)
+}
+
+// H and gradient in the layout of a solve's work, the rest of its n (n + 3) numbers +0.
+#[no_mangle]
+pub extern "C" fn pgo_assemble(
+    dof: u32,
+    gravity: &[f64],
+    poses: &[f64],
+    ends: &[u32],
+    edges: &[f32],
+    fixed: &[u32],
+    work: &mut [f32],
+) -> u32
+    ensures { λ r. ⌜ (r, now (work .exit)) ≡ assembleOut dof (now (gravity .entry)) (now (poses .entry)) (now (ends .entry)) (now (edges .entry)) (now (fixed .entry)) (now (work .entry)) ⌝ }
+{
+    if !((gravity.len() == 3) & ((dof == 6) | (dof == 4))) {
+        return UNFIT;
+    }
+    let m = manifold_of(dof, vec_from(gravity));
+    assemble(m, poses, ends, edges, fixed, work)
 }
