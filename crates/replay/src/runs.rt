@@ -1,0 +1,207 @@
+// A run again, and its answer beside the one in the record.
+use crate::bytes;
+use crate::inputs;
+use crate::inputs::Lists;
+use decisions::Why;
+use graph::Manifold;
+use numbers::Refusal;
+use sparse_pgo::Answer;
+use sparse_pgo::Joined;
+ghost use Prim.Native.Nat.{_≤_};
+
+// What the output holds before a run.
+const STALE: f64 = 0.5;
+
+pub fn number_of(i: usize) -> u32 {
+    if i < 4294967296 { i as u32 } else { 4294967295 }
+}
+
+// 1 Budget, 2 Gradient, 3 Step, 4 Cost, 5 Damping.
+pub fn stop_of(w: Why) -> u32 {
+    match w {
+        Why::Budget => 1,
+        Why::Gradient => 2,
+        Why::Step => 3,
+        Why::Cost => 4,
+        Why::Damping => 5,
+    }
+}
+
+fn one_if(yes: bool) -> u32 {
+    if yes { 1 } else { 0 }
+}
+
+pub fn refused(r: Refusal) -> [u32; 8] {
+    [r.number, number_of(r.place), 0, 0, 0, 0, 0, 0]
+}
+
+fn joined(j: Joined) -> [u32; 8] {
+    let why = j.why;
+    [
+        0,
+        0,
+        j.iterations,
+        one_if(j.converged),
+        j.accepted,
+        j.rejected,
+        j.failed,
+        stop_of(why),
+    ]
+}
+
+fn stale(out: &[f64]) -> bool {
+    let mut i = 0usize;
+    while i < out.len() {
+        if !bytes::same64(out[i], STALE) {
+            return false;
+        }
+        i += 1;
+    }
+    true
+}
+
+// Whether the record has this answer from `at` on. Where a run is refused the output stays as it was found.
+fn same_answer(a: Answer, out: &[f64], b: &[u8], at: usize) -> bool
+    requires { ⌜ at ≤ 65608 ⌝ }
+{
+    match a {
+        Answer::Refused(r) => {
+            let eight = refused(r);
+            bytes::same_u32s(&eight, b, at) & stale(out)
+        }
+        Answer::Joined(j) => {
+            let eight = joined(j);
+            let costs = [j.first_cost, j.last_cost];
+            bytes::same_u32s(&eight, b, at)
+                & (bytes::same_f32s(&costs, b, at + 32) & bytes::same_f64s(out, b, at + 40))
+        }
+    }
+}
+
+fn play(
+    b: &[u8],
+    poses: &[f64],
+    ends: &[u32],
+    edges: &[f32],
+    fixed: &[u32],
+    w32: &mut [f32],
+    w64: &mut [f64],
+    out: &mut [f64],
+) -> Answer {
+    let s = inputs::settings_of(b);
+    match inputs::manifold_of(b) {
+        Manifold::Se3 => sparse_pgo::optimize(poses, ends, edges, fixed, s, w32, w64, out),
+        Manifold::Gravity(g) => sparse_pgo::optimize_with_gravity(
+            g,
+            poses,
+            ends,
+            edges,
+            fixed,
+            s,
+            w32,
+            w64,
+            out,
+        ),
+    }
+}
+
+// The lists and what is lent, each as long as the record says.
+fn same_with(
+    b: &[u8],
+    poses: &mut [f64],
+    ends: &mut [u32],
+    edges: &mut [f32],
+    fixed: &mut [u32],
+    w32: &mut [f32],
+    w64: &mut [f64],
+    out: &mut [f64],
+) -> bool {
+    let l = inputs::lists_of(b);
+    inputs::load(b, l, poses, ends, edges, fixed);
+    let a = play(b, poses, ends, edges, fixed, w32, w64, out);
+    same_answer(a, out, b, l.end)
+}
+
+fn same_lent(
+    b: &[u8],
+    poses: &mut [f64],
+    ends: &mut [u32],
+    edges: &mut [f32],
+    fixed: &mut [u32],
+    w32: &mut [f32],
+    w64: &mut [f64],
+    out: &mut [f64],
+) -> bool {
+    let n32 = bytes::count_at(b, 60, 0, w32.len());
+    let n64 = bytes::count_at(b, 60, 1, w64.len());
+    let n = bytes::count_at(b, 60, 2, out.len());
+    same_with(
+        b,
+        poses,
+        ends,
+        edges,
+        fixed,
+        &mut w32[..n32],
+        &mut w64[..n64],
+        &mut out[..n],
+    )
+}
+
+fn same_listed(
+    b: &[u8],
+    poses: &mut [f64],
+    ends: &mut [u32],
+    edges: &mut [f32],
+    fixed: &mut [u32],
+    w32: &mut [f32],
+    w64: &mut [f64],
+    out: &mut [f64],
+) -> bool {
+    let p = bytes::count_at(b, 28, 0, poses.len());
+    let e = bytes::count_at(b, 28, 1, ends.len());
+    let f = bytes::count_at(b, 28, 2, edges.len());
+    let x = bytes::count_at(b, 28, 3, fixed.len());
+    same_lent(
+        b,
+        &mut poses[..p],
+        &mut ends[..e],
+        &mut edges[..f],
+        &mut fixed[..x],
+        w32,
+        w64,
+        out,
+    )
+}
+
+pub fn same_run(b: &[u8], w32: &mut [f32], w64: &mut [f64]) -> bool {
+    let mut poses = [0.0f64; 2048];
+    let mut ends = [0u32; 4096];
+    let mut edges = [0.0f32; 4096];
+    let mut fixed = [0u32; 4096];
+    let mut out = [STALE; 2048];
+    same_listed(
+        b,
+        &mut poses,
+        &mut ends,
+        &mut edges,
+        &mut fixed,
+        w32,
+        w64,
+        &mut out,
+    )
+}
+
+// A run that was not refused gives its poses.
+fn poses_size(l: Lists, number: u32) -> usize
+    requires { ⌜ l .poses ≤ 2048 ⌝ }
+    ensures { λ r. ⌜ r ≤ 16384 ⌝ }
+{
+    if number == 0 { l.poses * 8 } else { 0 }
+}
+
+pub fn is_whole(b: &[u8]) -> bool {
+    let l = inputs::lists_of(b);
+    let end = l.end;
+    let poses = poses_size(l, bytes::u32_at(b, end, 0));
+    inputs::has_room(b) & (b.len() == end + 40 + poses)
+}
