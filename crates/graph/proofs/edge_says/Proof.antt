@@ -24,7 +24,16 @@ edge-10-requires : tie.Need-edge-10-requires
 edge-10-requires c κs = search needs
 
 returns : tie.Need-returns
-returns c = cc
+returns c =
+    rw (
+      c .edge-10 .ensures,
+      c .before .edge-9 .ensures,
+      c .before .before .edge-8 .ensures,
+      c .before .before .before .edge-7 .ensures,
+      c .before .before .before .before .edge-at .ensures,
+      c .before .before .before .before .before .end-b .ensures,
+      c .before .before .before .before .before .before .end-a .ensures,
+    )
 
 pub edge-says-spec : {M : Type 1} → statement M
 edge-says-spec =
