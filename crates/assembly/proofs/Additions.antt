@@ -14,7 +14,7 @@ use Rattle.numbers.specs.Notation.{_⊞_, if-then}
 use Rattle.numbers.specs.Walks.{every, each, well, only, mustBeFinite}
 use Rattle.numbers.specs.declared.Went.{Went}
 use Rattle.assembly.specs.Assembly.{addTo}
-use Rattle.assembly.proofs.Rows.{told, each-told}
+use Rattle.numbers.proofs.Rows.{told, each-told}
 
 -- addition k, where the test takes it: v k to the number at place `at k`
 abbrev pub adding : (ℕ → Bool) → (ℕ → ℕ) → (ℕ → Float) → ℕ → List Float → Went × List Float
@@ -33,10 +33,11 @@ module _ (n : ℕ) (t : ℕ → Bool) (at : ℕ → ℕ) (v : ℕ → Float) (w 
   abbrev pub sums : ℕ → Float
   sums k = getD w (at k) nan ⊞ v k
 
-  -- before addition m: the sums below m stand in their places, and the others' numbers are as they were
+  -- before addition m: the sums below m stand in their places, and all other numbers are as they were
   pub record Sofar (m : ℕ) (y : List Float) : Type 0 where
     pub as-long : length y ≡ length w
     pub places : (k : ℕ) → k < n → t k ≡ true → getD y (at k) nan ≡ if-then (ltb k m) (sums k) (getD w (at k) nan)
+    pub others : (q : ℕ) → ((k : ℕ) → k < n → t k ≡ true → q ≡ at k → ⊥) → getD y q nan ≡ getD w q nan
 
   passed : (m : ℕ) (y : List Float) → t m ≡ false → Sofar m y → Sofar (suc m) y
   passed m y e s =
@@ -44,12 +45,17 @@ module _ (n : ℕ) (t : ℕ → Bool) (at : ℕ → ℕ) (v : ℕ → Float) (w 
         as-long = s .as-long;
         places = λ k l q.
             s .places k l q ∙ ap (λ (b : Bool). if-then b (sums k) (getD w (at k) nan)) (same-below k m (λ i. absurd (let z : _≡_ {A = Bool} true false = sym q ∙ ap t i ∙ e in let u : _≡_ {A = ℕ} 0 1 = cc in omega arith)));
+        others = s .others;
       }
 
   stored : (m : ℕ) (y : List Float) → m < n → t m ≡ true → Sofar m y → Sofar (suc m) (set y (at m) (sums m))
   unfolding if-then
   stored m y l e s =
-      record { as-long = length-set y (at m) (sums m) ∙ s .as-long; places = λ k b q. place k b q (eqb k m) (eqb-true k m) (eqb-false k m) }
+      record {
+        as-long = length-set y (at m) (sums m) ∙ s .as-long;
+        places = λ k b q. place k b q (eqb k m) (eqb-true k m) (eqb-false k m);
+        others = λ q o. getD-set-other y (at m) q (sums m) nan (o m l e) ∙ s .others q o;
+      }
     where
       place : (k : ℕ) → k < n → t k ≡ true → (x : Bool) → (x ≡ true → k ≡ m) → (x ≡ false → k ≡ m → ⊥)
           → getD (set y (at m) (sums m)) (at k) nan ≡ if-then (ltb k (suc m)) (sums k) (getD w (at k) nan)
@@ -80,4 +86,9 @@ module _ (n : ℕ) (t : ℕ → Bool) (at : ℕ → ℕ) (v : ℕ → Float) (w 
   all-added = each-told Sofar (λ k. not (t k) || finite (sums k)) (adding t at v) n w step start
     where
       start : Sofar 0 w
-      start = record { as-long = refl; places = λ k l q. sym (ap (λ (b : Bool). if-then b (sums k) (getD w (at k) nan)) (le-ltb k 0 (omega arith))) }
+      start =
+          record {
+            as-long = refl;
+            places = λ k l q. sym (ap (λ (b : Bool). if-then b (sums k) (getD w (at k) nan)) (le-ltb k 0 (omega arith)));
+            others = λ q _. refl;
+          }

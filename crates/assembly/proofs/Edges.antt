@@ -29,24 +29,24 @@ use Rattle.residual.specs.declared.Residual.{Residual}
 use Rattle.residual.specs.declared.Residual.the-variants.{Six, Failed}
 use Rattle.solve.specs.Work.{need}
 use Rattle.assembly.specs.Jacobians.{withSix, jacobianOf, codeOf, wentOf}
-use Rattle.assembly.specs.Assembly.{endOf, crossOf, withJacobian, endsOf, oneOf, bothOf, edgeOf, addAt, cleared, assembledEnds, assembledFrom, assembledOf}
+use Rattle.assembly.specs.Assembly.{lowerTriangle, endOf, crossOf, withJacobian, endsOf, oneOf, bothOf, edgeOf, addAt, cleared, assembledEnds, assembledFrom, assembledOf}
 use Rattle.assembly.specs.declared.EdgeEndpoint.{EdgeEndpoint}
 use Rattle.assembly.specs.declared.EdgeEndpoint.the-variants.{A, B}
 use Rattle.assembly.specs.declared.Assembled.the-variants as assembled
 use Rattle.assembly.proofs.Going.{code-kept}
 
 -- ---- two free ends
-module _ (n dof i k : ℕ) (ja jb : List (List Float)) (r w : List Float) {x : Went} {wa : List Float} (a : (x, wa) ≡ endOf n dof i ja r w) where
-  pub ends-lost-a : {why : Failure} → x ≡ Bad why → (Bad why, wa) ≡ endsOf n dof i k ja jb r w
+module _ (n dof i k : ℕ) (ja jb : List (List Float)) (r w : List Float) {x : Went} {wa : List Float} (a : (x, wa) ≡ endOf lowerTriangle n dof i ja r w) where
+  pub ends-lost-a : {why : Failure} → x ≡ Bad why → (Bad why, wa) ≡ endsOf lowerTriangle n dof i k ja jb r w
   unfolding endsOf andThen
   ends-lost-a e = rw (← a, e)
 
-  module _ (e : x ≡ Well) {y : Went} {wb : List Float} (b : (y, wb) ≡ endOf n dof k jb r wa) where
-    pub ends-lost-b : {why : Failure} → y ≡ Bad why → (Bad why, wb) ≡ endsOf n dof i k ja jb r w
+  module _ (e : x ≡ Well) {y : Went} {wb : List Float} (b : (y, wb) ≡ endOf lowerTriangle n dof k jb r wa) where
+    pub ends-lost-b : {why : Failure} → y ≡ Bad why → (Bad why, wb) ≡ endsOf lowerTriangle n dof i k ja jb r w
     unfolding endsOf andThen
     ends-lost-b f = rw (← a, e, ← b, f)
 
-    pub ends-had : {s : Went × List Float} → y ≡ Well → s ≡ crossOf n dof i k ja jb wb → s ≡ endsOf n dof i k ja jb r w
+    pub ends-had : {s : Went × List Float} → y ≡ Well → s ≡ crossOf lowerTriangle n dof i k ja jb wb → s ≡ endsOf lowerTriangle n dof i k ja jb r w
     unfolding endsOf andThen
     ends-had f h = rw (← a, e, ← b, f) h
 
@@ -62,43 +62,43 @@ module _ (m : Manifold) (n : ℕ) (a b : Pose) (e : Edge) (w : List Float) {x : 
 
   -- ---- an edge with one free end
   module _ (end : EdgeEndpoint) (i : ℕ) where
-    pub one-lost : {why : Failure} → x ≡ Failed why → (Bad why, w) ≡ oneOf m n a b e end i w
+    pub one-lost : {why : Failure} → x ≡ Failed why → (Bad why, w) ≡ oneOf lowerTriangle m n a b e end i w
     unfolding oneOf withSix
     one-lost f = rw (← res, f)
 
     module _ {d : Twist} (six : x ≡ Six d) {code : ℕ} {j : List (List Float)} {y : Went} (h : Lent end code j) (g : y ≡ wentOf code) where
-      pub one-no-jacobian : {why : Failure} → y ≡ Bad why → (Bad why, w) ≡ oneOf m n a b e end i w
+      pub one-no-jacobian : {why : Failure} → y ≡ Bad why → (Bad why, w) ≡ oneOf lowerTriangle m n a b e end i w
       unfolding oneOf withSix withJacobian
       one-no-jacobian f = rw (← res, six, said h g f)
 
-      pub one-had : {dof : ℕ} {r : List Float} {s : Went × List Float} → y ≡ Well → r ≡ sixOf d → dof ≡ dofOf m → s ≡ endOf n dof i j r w → s ≡ oneOf m n a b e end i w
+      pub one-had : {dof : ℕ} {r : List Float} {s : Went × List Float} → y ≡ Well → r ≡ sixOf d → dof ≡ dofOf m → s ≡ endOf lowerTriangle n dof i j r w → s ≡ oneOf lowerTriangle m n a b e end i w
       unfolding oneOf withSix withJacobian
       one-had f q p z = rw (← res, six, said h g f, ← q, ← p) z
 
   -- ---- an edge with two
   module _ (i k : ℕ) where
-    pub both-lost : {why : Failure} → x ≡ Failed why → (Bad why, w) ≡ bothOf m n a b e i k w
+    pub both-lost : {why : Failure} → x ≡ Failed why → (Bad why, w) ≡ bothOf lowerTriangle m n a b e i k w
     unfolding bothOf withSix
     both-lost f = rw (← res, f)
 
     module _ {d : Twist} (six : x ≡ Six d) {code : ℕ} {ja : List (List Float)} {y : Went} (h : Lent A code ja) (g : y ≡ wentOf code) where
-      pub both-no-a : {why : Failure} → y ≡ Bad why → (Bad why, w) ≡ bothOf m n a b e i k w
+      pub both-no-a : {why : Failure} → y ≡ Bad why → (Bad why, w) ≡ bothOf lowerTriangle m n a b e i k w
       unfolding bothOf withSix withJacobian
       both-no-a f = rw (← res, six, said h g f)
 
       module _ (f : y ≡ Well) {code' : ℕ} {jb : List (List Float)} {z : Went} (h' : Lent B code' jb) (g' : z ≡ wentOf code') where
-        pub both-no-b : {why : Failure} → z ≡ Bad why → (Bad why, w) ≡ bothOf m n a b e i k w
+        pub both-no-b : {why : Failure} → z ≡ Bad why → (Bad why, w) ≡ bothOf lowerTriangle m n a b e i k w
         unfolding bothOf withSix withJacobian
         both-no-b f' = rw (← res, six, said h g f, said h' g' f')
 
-        pub both-had : {dof : ℕ} {r : List Float} {s : Went × List Float} → z ≡ Well → r ≡ sixOf d → dof ≡ dofOf m → s ≡ endsOf n dof i k ja jb r w → s ≡ bothOf m n a b e i k w
+        pub both-had : {dof : ℕ} {r : List Float} {s : Went × List Float} → z ≡ Well → r ≡ sixOf d → dof ≡ dofOf m → s ≡ endsOf lowerTriangle n dof i k ja jb r w → s ≡ bothOf lowerTriangle m n a b e i k w
         unfolding bothOf withSix withJacobian
         both-had f' q p t = rw (← res, six, said h g f, said h' g' f', ← q, ← p) t
 
 -- ---- an edge by its number
 
 -- an edge that is not active adds nothing
-idle : (m : Manifold) (n : ℕ) (a b : Pose) (e : Edge) (sa sb : Slot) (w : List Float) → edgeOf m n a b e sa sb w ≡ only (isBlock sa || isBlock sb) (edgeOf m n a b e sa sb) w
+idle : (m : Manifold) (n : ℕ) (a b : Pose) (e : Edge) (sa sb : Slot) (w : List Float) → edgeOf lowerTriangle m n a b e sa sb w ≡ only (isBlock sa || isBlock sb) (edgeOf lowerTriangle m n a b e sa sb) w
 unfolding edgeOf
 idle m n a b e Fixed Fixed w = refl
 idle m n a b e Fixed (Block k) w = refl
@@ -108,11 +108,11 @@ idle m n a b e (Block i) (Block k) w = refl
 module _ (m : Manifold) (n : ℕ) (poses : List Float) (ends : List ℕ) (edges : List Float) (blocks : List ℕ) (free k : ℕ) (w : List Float) where
   pub edge-added : {x y : ℕ} {sa sb : Slot} {a b : Pose} {e : Edge} {s : Went × List Float}
       → x ≡ endA ends k → y ≡ endB ends k → sa ≡ slotIn blocks free x → sb ≡ slotIn blocks free y → a ≡ poseAt poses x → b ≡ poseAt poses y → e ≡ edgeAt edges k
-      → s ≡ edgeOf m n a b e sa sb w
-      → s ≡ only (isActive (lentLinks ends edges blocks free) k) (addAt m n (lentLinks ends edges blocks free) (poseAt poses) k) w
+      → s ≡ edgeOf lowerTriangle m n a b e sa sb w
+      → s ≡ only (isActive (lentLinks ends edges blocks free) k) (addAt lowerTriangle m n (lentLinks ends edges blocks free) (poseAt poses) k) w
   unfolding addAt
   edge-added {s = s} p q f g h i j t =
-      let u : s ≡ edgeOf m n (poseAt poses (endA ends k)) (poseAt poses (endB ends k)) (edgeAt edges k) (slotIn blocks free (endA ends k)) (slotIn blocks free (endB ends k)) w = cc in
+      let u : s ≡ edgeOf lowerTriangle m n (poseAt poses (endA ends k)) (poseAt poses (endB ends k)) (edgeAt edges k) (slotIn blocks free (endA ends k)) (slotIn blocks free (endB ends k)) w = cc in
       u ∙ idle m n _ _ _ _ _ w
 
 -- a block below the free count has room
@@ -133,7 +133,7 @@ pub answered : {S : Type 0} {x y : Went} {t : S} {z : Went × S} → (x, t) ≡ 
 answered {t = t} e f = sym e ∙ ap (λ (x : Went). (x, t)) f
 
 abbrev pub edgeStep : Manifold → ℕ → Links Edge → (ℕ → Pose) → ℕ → List Float → Went × List Float
-edgeStep m n l pose k = only (isActive l k) (addAt m n l pose k)
+edgeStep m n l pose k = only (isActive l k) (addAt lowerTriangle m n l pose k)
 
 -- so many unknowns can be counted, and the work has room for them
 pub unknowns : (d free : ℕ) → d ≤ 6 → d * free ≤ 6 * free

@@ -1,4 +1,4 @@
--- Where the numbers of a system stand, a part of the work that is lent, and the work cleared. Assumes nothing.
+-- A part of the work that is lent, and the work cleared. Assumes nothing.
 use mathlib.Core.Path.{_≡_, refl, ap, sym, _∙_}
 use mathlib.Core.List.{List, [], _∷_, _++_, append-nil}
 use Prim.Native.Nat.{ℕ, zero, suc, _+_, _-_, _*_, _<_, _≤_}
@@ -13,62 +13,37 @@ use Rattle.numbers.specs.declared.Failure.{Failure}
 use Rattle.numbers.specs.declared.Went.{Went}
 use Rattle.numbers.specs.declared.Went.the-variants.{Well, Bad}
 use Rattle.numbers.proofs.Walking.{then-failed, then-went}
+use Rattle.numbers.proofs.Parted.{partFrom, withPart, part-from, with-part}
 use Rattle.solve.specs.Work.{need}
-use Rattle.assembly.specs.Assembly.{lent, gradientOf, blockOf, endOf, cleared}
-
-pub in-square : (n col row : ℕ) → col < n → row < n → col * n + row < n * n
-in-square n col row h k = omega (arith, mul-le-mul-right n h, suc-mul col n)
-
--- a part of the work from `at` on, as it is lent; and the work with what came back
-abbrev pub partFrom : ℕ → List Float → List Float
-partFrom at w = take (length w - at) (drop at w)
-
-abbrev pub withPart : ℕ → List Float → List Float → List Float
-withPart at w ys = take at w ++ (ys ++ drop (length w - at) (drop at w))
+use Rattle.assembly.specs.Assembly.{lent, gradientOf, lowerTriangle, blockOf, endOf, cleared}
 
 -- what a callee that was lent the part says of it, said of the whole
 pub lent-part : (f : List Float → Went × List Float) (at : ℕ) (w : List Float) {r s : Went} {ys : List Float}
     → (r, ys) ≡ f (partFrom at w) → r ≡ s → lent at f w ≡ (s, withPart at w ys)
 lent-part f at w {r} {s} {ys} e q =
-    let l : length (drop at w) ≤ length w - at = rw length-drop (le-refl _) in
-    let t : partFrom at w ≡ drop at w = take-all (length w - at) (drop at w) l in
-    let d : drop (length w - at) (drop at w) ≡ [] = drop-of-length-le (drop at w) l in
-    let b : withPart at w ys ≡ take at w ++ ys = ap (λ z. take at w ++ (ys ++ z)) d ∙ ap (λ z. take at w ++ z) (append-nil ys) in
-    let p : f (drop at w) ≡ (s, ys) = sym (e ∙ ap f t) ∙ ap (λ (x : Went). (x, ys)) q in
-    ap (λ (x : Went × List Float). (x .0, take at w ++ x .1)) p ∙ ap (λ (y : List Float). (s, y)) (sym b)
+    let p : f (drop at w) ≡ (s, ys) = sym (e ∙ ap f (part-from at w)) ∙ ap (λ (x : Went). (x, ys)) q in
+    ap (λ (x : Went × List Float). (x .0, take at w ++ x .1)) p ∙ ap (λ (y : List Float). (s, y)) (sym (with-part at w ys))
 
 -- a free end whose gradient could not be added, and one whose gradient could
 module _ (n dof b : ℕ) (j : List (List Float)) (r w : List Float) where
   pub end-failed : {went : Went} {why : Failure} {ys : List Float}
-      → (went, ys) ≡ gradientOf dof j r (partFrom (n * n + n + b * dof) w) → went ≡ Bad why → (Bad why, withPart (n * n + n + b * dof) w ys) ≡ endOf n dof b j r w
+      → (went, ys) ≡ gradientOf dof j r (partFrom (n * n + n + b * dof) w) → went ≡ Bad why → (Bad why, withPart (n * n + n + b * dof) w ys) ≡ endOf lowerTriangle n dof b j r w
   unfolding endOf
   end-failed e q = then-failed _ _ (lent-part (gradientOf dof j r) (n * n + n + b * dof) w e q)
 
   pub end-went : {went said : Went} {ys last : List Float}
-      → (went, ys) ≡ gradientOf dof j r (partFrom (n * n + n + b * dof) w) → went ≡ Well → (said, last) ≡ blockOf n dof b b j j (withPart (n * n + n + b * dof) w ys)
-      → (said, last) ≡ endOf n dof b j r w
+      → (went, ys) ≡ gradientOf dof j r (partFrom (n * n + n + b * dof) w) → went ≡ Well → (said, last) ≡ blockOf lowerTriangle n dof b b j j (withPart (n * n + n + b * dof) w ys)
+      → (said, last) ≡ endOf lowerTriangle n dof b j r w
   unfolding endOf
   end-went e q h = then-went _ _ (lent-part (gradientOf dof j r) (n * n + n + b * dof) w e q) h
-
--- one more number of a list filled from the front
-module _ {A : Type 0} where
-  fill-suc : (n : ℕ) (v : A) (l : List A) → n < length l → set (replicate n v ++ drop n l) n v ≡ replicate (suc n) v ++ drop (suc n) l
-  fill-suc n v [] h = absurd (not-suc-le-zero h)
-  fill-suc zero v (x ∷ l) h = refl
-  fill-suc (suc n) v (x ∷ l) h = ap (λ (t : List A). v ∷ t) (fill-suc n v l (le-of-suc-le-suc h))
-
-  pub fill-more : (n : ℕ) (v : A) (l : List A) → n < length l → set (replicate n v ++ drop n l) n v ≡ replicate (n + 1) v ++ drop (n + 1) l
-  fill-more n v l h = rw (add-one n) (fill-suc n v l h)
-
--- +0, as a reader writes it and as the code does
-pub zero-num : num 0 ≡ ofBits binary32 0
-unfolding ratio ofBits
-zero-num = refl
 
 -- ---- the work that an assembly starts from
 module _ (n : ℕ) (w : List Float) where
   pub cleared-length : need n ≤ length w → length (cleared n w) ≡ length w
   cleared-length h = simp (length-append, length-replicate, length-drop) (omega arith)
+
+  pub cleared-room : need n ≤ length (cleared n w)
+  cleared-room = simp (length-append, length-replicate) (omega arith)
 
   pub cleared-zero : (q : ℕ) → q < need n → getD (cleared n w) q nan ≡ num 0
   cleared-zero q l =

@@ -25,7 +25,7 @@ use Rattle.solve.specs.Rule.{nothing}
 use Rattle.solve.specs.Work.{need, Place, kept, scratch, stepAt, placeOf, after, workAfter}
 use Rattle.assembly.specs.Assembly.{addTo, cleared, assembledEnds, assembledFrom, assembledOf}
 use Rattle.assembly.proofs.Laws.{cleared-length, cleared-zero, cleared-rest}
-use Rattle.assembly.proofs.Invariants.{Good, Over}
+use Rattle.numbers.proofs.Invariants.{Good, Over}
 use Rattle.assembly.proofs.Walked.{Fits, edges-over}
 
 -- ---- the places of the system, and those past it

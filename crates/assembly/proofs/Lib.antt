@@ -1,12 +1,11 @@
 pub mod Laws
 pub mod Going
 pub mod Edges
-pub mod Invariants
 pub mod Walked
 pub mod LeftBehind
 pub mod AllFinite
 pub mod SameEdges
 pub mod Products
-pub mod Rows
 pub mod Additions
+pub mod DiagonalBlocks
 pub mod WholeBlocks

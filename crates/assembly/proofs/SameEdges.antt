@@ -11,7 +11,7 @@ use Rattle.graph.specs.Graph.{Links, isBlock, isActive}
 use Rattle.graph.specs.declared.Edge.{Edge}
 use Rattle.graph.specs.declared.Manifold.{Manifold}
 use Rattle.graph.specs.declared.Slot.{Slot}
-use Rattle.assembly.specs.Assembly.{edgeOf, addAt, cleared, assembledEnds, assembledOf}
+use Rattle.assembly.specs.Assembly.{lowerTriangle, edgeOf, addAt, cleared, assembledEnds, assembledOf}
 
 -- the same edges between the same poses; pose numbers may differ
 pub record Same (l l' : Links Edge) (pose pose' : ℕ → Pose) : Type 0 where
@@ -23,7 +23,7 @@ pub record Same (l l' : Links Edge) (pose pose' : ℕ → Pose) : Type 0 where
   pub slot-b : (k : ℕ) → k < l .edges → l .slot (l .b k) ≡ l' .slot (l' .b k)
 
 same-step : (m : Manifold) (n : ℕ) {a a' b b' : Pose} {e e' : Edge} {s s' t t' : Slot} (w : List Float) → a ≡ a' → b ≡ b' → e ≡ e' → s ≡ s' → t ≡ t'
-    → only (isBlock s || isBlock t) (edgeOf m n a b e s t) w ≡ only (isBlock s' || isBlock t') (edgeOf m n a' b' e' s' t') w
+    → only (isBlock s || isBlock t) (edgeOf lowerTriangle m n a b e s t) w ≡ only (isBlock s' || isBlock t') (edgeOf lowerTriangle m n a' b' e' s' t') w
 same-step m n w p q r u v = rw (p, q, r, u, v)
 
 module _ (m : Manifold) (n : ℕ) (l l' : Links Edge) (pose pose' : ℕ → Pose) (s : Same l l' pose pose') (w : List Float) where
@@ -32,7 +32,7 @@ module _ (m : Manifold) (n : ℕ) (l l' : Links Edge) (pose pose' : ℕ → Pose
   same-ends =
       each-ext _ _ (l .edges) (cleared n w)
       (λ k b y. same-step m n y (s .pose-a k b) (s .pose-b k b) (s .same-measured k b) (s .slot-a k b) (s .slot-b k b))
-      ∙ ap (λ c. each (λ k. only (isActive l' k) (addAt m n l' pose' k)) c (cleared n w)) (s .as-many)
+      ∙ ap (λ c. each (λ k. only (isActive l' k) (addAt lowerTriangle m n l' pose' k)) c (cleared n w)) (s .as-many)
 
   pub same-assembly : assembledOf m n l pose w ≡ assembledOf m n l' pose' w
   unfolding assembledOf

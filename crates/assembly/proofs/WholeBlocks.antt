@@ -1,238 +1,287 @@
--- The Rust fills whole blocks on the diagonal; here only their lower triangles are kept. Both turn down the same inputs, at the same addition, and hold
--- the same bits: a product of two columns of one Jacobian is the same in either order, so a block that was symmetric stays so. Assumes nothing.
-use mathlib.Core.Path.{_≡_, refl, sym, ap, ap₂, _∙_}
-use mathlib.Core.Bool.{Bool, true, false, not, _||_}
+-- The Rust fills whole blocks on the diagonal of the Hessian; here only its lower triangle is kept. Both assemblies are done with the same system, bit for bit,
+-- or both stop at the same edge: a product of two columns of one Jacobian is the same in either order, so a block that was symmetric stays so. Assumes nothing.
+use mathlib.Core.Path.{_≡_, refl, sym, ap, ap₂, subst, _∙_}
+use mathlib.Core.Bool.{Bool, true, false}
 use mathlib.Core.List.{List}
 use mathlib.Core.Logic.{⊎-elim}
-use Prim.Native.Nat.{ℕ, zero, suc, _+_, _*_, _/_, _%_, _<_, _≤_}
-use native.Mathlib.Nat.{le-trans, div-add-mod', div-lt-iff-lt-mul, mod-lt, eq-or-lt-of-le}
+use Prim.Native.Nat.{ℕ, _+_, _-_, _*_, _/_, _<_, _≤_}
+use native.Mathlib.Nat.{suc-mul, mul-le-mul-right, eq-or-lt-of-le}
 use native.Mathlib.Omega.{arith}
-use lib.Arith.{digits-div, digits-mod, digits-lt}
-use lib.Dec.{leb}
-use lib.ListN.{length, getD, replicate, length-replicate, getD-replicate}
+use lib.Arith.{digits-div, digits-lt}
+use lib.Dec.{eqb, ltb, leb}
+use lib.ListN.{length, getD, set, length-set}
+use lib.Seq.{getD-set-same, getD-set-other}
 use lib.Ieee.{Float, nan}
 use lib.Ieee.Scale.{finite}
-use borrow.Author.Tests.{lt-ltb, le-leb, leb-true, leb-false}
+use borrow.Author.Tests.{le-leb, leb-true, leb-false, ltb-true, ltb-false, eqb-true, eqb-false}
 use Rattle.numbers.specs.Notation.{_⊞_, num, if-then}
-use Rattle.numbers.specs.Walks.{Ended, done, stopped, every, turn, next, each, well}
-use Rattle.numbers.proofs.Walking.{each-ext}
+use Rattle.numbers.specs.Walks.{Ended, done, stopped, every, count, only, mustBeFinite}
+use Rattle.numbers.specs.declared.Failure.the-variants.{Numerical}
 use Rattle.numbers.specs.declared.Went.{Went}
 use Rattle.numbers.specs.declared.Went.the-variants.{Well, Bad}
-use Rattle.solve.specs.Work.{need, matrixOf}
-use Rattle.assembly.specs.Assembly.{dotOf, addTo, entryOf, rowOf, blockOf, cleared}
-use Rattle.assembly.proofs.Laws.{cleared-length, cleared-zero}
+use Rattle.numbers.proofs.Walking.{count-below, every-same}
+use Rattle.rotations.specs.declared.Pose.{Pose}
+use Rattle.graph.specs.Graph.{Graph, Links, isFree, slotAt, linksOf}
+use Rattle.graph.specs.Lent.{dofOf}
+use Rattle.graph.specs.declared.Edge.{Edge}
+use Rattle.graph.specs.declared.Manifold.{Manifold}
+use Rattle.graph.specs.declared.Slot.the-variants.{Block, Fixed}
+use Rattle.solve.specs.Work.{need, matrixOf, gradientOf}
+use Rattle.assembly.specs.Assembly.{dotOf, addTo, cleared, lowerTriangle, wholeBlocks, entryOf, rowOf, blockOf, endsBy, assembledEnds}
+use Rattle.assembly.proofs.Laws.{cleared-room, cleared-zero}
+use Rattle.numbers.proofs.Invariants.{Together, Abreast, each-together}
+use Rattle.assembly.proofs.Walked.{Fits, edges-abreast}
 use Rattle.assembly.proofs.Products.{dot-turned}
-use Rattle.assembly.proofs.Rows.{told, each-nested, every-same}
-use Rattle.assembly.proofs.Additions.{adding, Sofar, all-added}
+use Rattle.numbers.proofs.Rows.{told}
+use Rattle.assembly.proofs.DiagonalBlocks.{one-place, sumAt, asked, then-finite, if-finite, Added, block-added}
 
--- the Rust's diagonal block of an end: dof rows of dof numbers, each added to and then asked
-unfoldable pub wholeBlock : ℕ → List (List Float) → List Float → Went × List Float
-wholeBlock dof j block = well (each (λ r x. well (each (λ c x. addTo x (r * dof + c) (dotOf j r j c)) dof x)) dof block)
+-- ---- what is shown
 
--- the block of the Rust and that of the work w: symmetric, and the same numbers on and below the diagonal
-pub record Mirrors (n dof b : ℕ) (w block : List Float) : Type 0 where
-  pub room : n * n ≤ length w
-  pub whole : length block ≡ dof * dof
-  pub symmetric : (r c : ℕ) → r < dof → c < dof → getD block (r * dof + c) nan ≡ getD block (c * dof + r) nan
-  pub same : (r c : ℕ) → c ≤ r → r < dof → getD block (r * dof + c) nan ≡ matrixOf w n (b * dof + r) (b * dof + c)
+-- the same system: H's lower triangle and the gradient, bit for bit
+pub record SameSystem (n : ℕ) (w v : List Float) : Type 0 where
+  pub matrix : (i j : ℕ) → j ≤ i → i < n → matrixOf w n i j ≡ matrixOf v n i j
+  pub gradient : (i : ℕ) → i < n → gradientOf w n i ≡ gradientOf v n i
 
-told-well : (b : Bool) → told b ≡ Well → b ≡ true
-unfolding if-then
-told-well true e = refl
-told-well false e = absurd (let z : _≡_ {A = ℕ} 0 1 = cc in omega arith)
+-- both done with the same system, or both stopped at the same edge for the same reason
+abbrev pub Alike : ℕ → Ended (List Float) → Ended (List Float) → Type 0
+Alike n (done w) (done v) = SameSystem n w v
+Alike n (stopped k why w) (stopped i because v) = (k ≡ i) × (why ≡ because)
+Alike n (done w) (stopped i because v) = ⊥
+Alike n (stopped k why w) (done v) = ⊥
 
-module _ (dof : ℕ) where
-  -- entry k of a block, row by row
-  abbrev value : List (List Float) → ℕ → Float
-  value j k = dotOf j (k / dof) j (k % dof)
+-- no edge has both its ends in one block
+abbrev pub Apart : {M : Type 0} → Links M → Type 0
+Apart l = (k : ℕ) → k < l .edges → (b : ℕ) → l .slot (l .a k) ≡ Block b → l .slot (l .b k) ≡ Block b → ⊥
 
-  abbrev all : ℕ → Bool
-  all k = true
+-- ---- the two works: the same system, and in the Rust's every diagonal block is symmetric
+record Mirrored (n dof : ℕ) (w v : List Float) : Type 0 where
+  pub room : need n ≤ length w
+  pub as-long : length w ≡ length v
+  pub same : SameSystem n w v
+  pub symmetric : (b r c : ℕ) → b * dof + dof ≤ n → r < dof → c < dof → matrixOf v n (b * dof + r) (b * dof + c) ≡ matrixOf v n (b * dof + c) (b * dof + r)
 
-  abbrev here : ℕ → ℕ
-  here k = k
+abbrev Any : List Float → List Float → Type 0
+Any w v = Unit {0}
 
-  whole-row : (j : List (List Float)) (block : List Float) → wholeBlock dof j block ≡ well (each (adding all here (value j)) (dof * dof) block)
-  unfolding wholeBlock
-  whole-row j block =
-      ap well (each-ext _ _ dof block (λ r h y. ap well (each-ext _ _ dof y (λ c l z. rw (digits-div r l, digits-mod r l)))))
-      ∙ each-nested (adding all here (value j)) dof dof block
+module _ (n dof : ℕ) where
+  -- ---- an addition of both, to a place off the diagonal blocks
+  abbrev Off : ℕ → Type 0
+  Off q = (b r c : ℕ) → b * dof + dof ≤ n → r < dof → c < dof → (b * dof + c) * n + (b * dof + r) ≡ q → ⊥
 
-  -- its row and its column
-  wide : (k : ℕ) → k < dof * dof → 0 < dof
-  wide k l = ⊎-elim (λ (e : 0 ≡ dof). absurd (let z : k < 0 * 0 = rw (← e) at l in omega arith)) (λ (h : 0 < dof). h) (eq-or-lt-of-le (omega arith))
+  in-matrix : (i j : ℕ) → i < n → j < n → j * n + i < need n
+  in-matrix i j l h = let z : j * n + i < n * n = digits-lt h l in omega arith
 
-  row-in : (k : ℕ) → k < dof * dof → k / dof < dof
-  row-in k l = div-lt-iff-lt-mul (wide k l) .1 l
-
-  col-in : (k : ℕ) → k < dof * dof → k % dof < dof
-  col-in k l = mod-lt k (wide k l)
-
-  module _ (n b : ℕ) (fits : b * dof + dof ≤ n) where
-    abbrev place : ℕ → ℕ
-    place k = (b * dof + k % dof) * n + (b * dof + k / dof)
-
-    abbrev below : ℕ → Bool
-    below k = leb (b * dof + k % dof) (b * dof + k / dof)
-
-    lower-row : (j : List (List Float)) (w : List Float) → blockOf n dof b b j j w ≡ well (each (adding below place (value j)) (dof * dof) w)
-    unfolding blockOf rowOf entryOf
-    lower-row j w =
-        ap well (each-ext _ _ dof w (λ r h y. ap well (each-ext _ _ dof y (λ c l z. rw (digits-div r l, digits-mod r l)))))
-        ∙ each-nested (adding below place (value j)) dof dof w
-
-    place-in : (k : ℕ) → k < dof * dof → place k < n * n
-    place-in k l = let r = row-in k l in let c = col-in k l in digits-lt (omega arith) (omega arith)
-
-    places-apart : (i k : ℕ) → i < dof * dof → k < dof * dof → place i ≡ place k → i ≡ k
-    places-apart i k li lk e =
-        let ri : b * dof + i / dof < n = (let r = row-in i li in omega arith) in
-        let rk : b * dof + k / dof < n = (let r = row-in k lk in omega arith) in
-        let c : b * dof + i % dof ≡ b * dof + k % dof = sym (digits-div _ ri) ∙ ap (λ q. q / n) e ∙ digits-div _ rk in
-        let r : b * dof + i / dof ≡ b * dof + k / dof = sym (digits-mod (b * dof + i % dof) ri) ∙ ap (λ q. q % n) e ∙ digits-mod (b * dof + k % dof) rk in
-        let c' : i % dof ≡ k % dof = omega arith in
-        let r' : i / dof ≡ k / dof = omega arith in
-        sym (div-add-mod' i dof) ∙ ap₂ (λ x y. x * dof + y) r' c' ∙ div-add-mod' k dof
-
-    module _ (j : List (List Float)) (w block : List Float) (mirrors : Mirrors n dof b w block) where
-      -- what the entry in row r and column c becomes, in the work and in the Rust's block
-      abbrev inWork : ℕ → ℕ → Float
-      inWork r c = matrixOf w n (b * dof + r) (b * dof + c) ⊞ dotOf j r j c
-
-      abbrev inBlock : ℕ → ℕ → Float
-      inBlock r c = getD block (r * dof + c) nan ⊞ dotOf j r j c
-
-      agree : (r c : ℕ) → c ≤ r → r < dof → inBlock r c ≡ inWork r c
-      agree r c h l = ap (λ x. x ⊞ dotOf j r j c) (mirrors .same r c h l)
-
-      turned : (r c : ℕ) → r < dof → c < dof → inBlock r c ≡ inBlock c r
-      turned r c h l = ap₂ (λ x y. x ⊞ y) (mirrors .symmetric r c h l) (dot-turned j r j c)
-
-      abbrev asked : ℕ → Bool
-      asked k = finite (getD block k nan ⊞ value j k)
-
-      abbrev askedBelow : ℕ → Bool
-      askedBelow k = not (below k) || finite (getD w (place k) nan ⊞ value j k)
-
-      flat : (k : ℕ) → getD block k nan ⊞ value j k ≡ inBlock (k / dof) (k % dof)
-      flat k = ap (λ q. getD block q nan ⊞ value j k) (sym (div-add-mod' k dof))
-
-      down : (k : ℕ) → k < dof * dof → ((i : ℕ) → i < dof * dof → asked i ≡ true) → askedBelow k ≡ true
-      down k l h = go (below k) (leb-true _ _)
-        where
-          go : (t : Bool) → (t ≡ true → b * dof + k % dof ≤ b * dof + k / dof) → (not t || finite (getD w (place k) nan ⊞ value j k)) ≡ true
-          go true f = let o = f refl in sym (ap finite (flat k ∙ agree (k / dof) (k % dof) (omega arith) (row-in k l))) ∙ h k l
-          go false f = refl
-
-      up : (k : ℕ) → k < dof * dof → ((i : ℕ) → i < dof * dof → askedBelow i ≡ true) → asked k ≡ true
-      up k l h = ap finite (flat k) ∙ go (below k) (leb-true _ _) (leb-false _ _)
-        where
-          -- on or below the diagonal
-          lower : (r c : ℕ) → c ≤ r → r < dof → finite (inBlock r c) ≡ true
-          lower r c o q =
-              let m : r * dof + c < dof * dof = digits-lt q (omega arith) in
-              let g : c < dof = omega arith in
-              let i : (not (leb (b * dof + c) (b * dof + r)) || finite (inWork r c)) ≡ true = rw (digits-div r g, digits-mod r g) at (h (r * dof + c) m) in
-              ap finite (agree r c o q) ∙ (rw (le-leb (b * dof + c) (b * dof + r) (omega arith)) at i)
-
-          go : (t : Bool) → (t ≡ true → b * dof + k % dof ≤ b * dof + k / dof) → (t ≡ false → b * dof + k / dof < b * dof + k % dof) → finite (inBlock (k / dof) (k % dof)) ≡ true
-          go true f g = let o = f refl in lower (k / dof) (k % dof) (omega arith) (row-in k l)
-          go false f g = let o = g refl in ap finite (turned (k / dof) (k % dof) (row-in k l) (col-in k l)) ∙ lower (k % dof) (k / dof) (omega arith) (col-in k l)
-
-      -- every entry of the block is finite exactly if those on and below the diagonal are
-      pub same-answer : every asked (dof * dof) ≡ every askedBelow (dof * dof)
-      same-answer = every-same asked askedBelow (dof * dof) (λ h k l. down k l h) (λ h k l. up k l h)
-
-      wholeSofar : ℕ → List Float → Type 0
-      wholeSofar = Sofar (dof * dof) all here (value j) block (λ k l _. rw (mirrors .whole) l) (λ i k _ _ _ _ e. e)
-
-      lowerSofar : ℕ → List Float → Type 0
-      lowerSofar = Sofar (dof * dof) below place (value j) w (λ k l _. le-trans (place-in k l) (mirrors .room)) (λ i k li lk _ _ e. places-apart i k li lk e)
-
-      wholly : (wholeBlock dof j block .0 ≡ told (every asked (dof * dof))) × (every asked (dof * dof) ≡ true → wholeSofar (dof * dof) (wholeBlock dof j block .1))
-      unfolding wholeSofar
-      wholly = rw (whole-row j block) (all-added (dof * dof) all here (value j) block (λ k l _. rw (mirrors .whole) l) (λ i k _ _ _ _ e. e))
-
-      lowly : (blockOf n dof b b j j w .0 ≡ told (every askedBelow (dof * dof))) × (every askedBelow (dof * dof) ≡ true → lowerSofar (dof * dof) (blockOf n dof b b j j w .1))
-      unfolding lowerSofar
-      lowly = rw (lower-row j w) (all-added (dof * dof) below place (value j) w (λ k l _. le-trans (place-in k l) (mirrors .room)) (λ i k li lk _ _ e. places-apart i k li lk e))
-
-      -- one accumulation: both say the same
-      pub same-said : wholeBlock dof j block .0 ≡ blockOf n dof b b j j w .0
-      same-said = wholly .0 ∙ ap told same-answer ∙ sym (lowly .0)
-
-      -- and where it goes well the block is symmetric again, with the same numbers on and below the diagonal
-      pub same-numbers : blockOf n dof b b j j w .0 ≡ Well → Mirrors n dof b (blockOf n dof b b j j w .1) (wholeBlock dof j block .1)
-      unfolding wholeSofar lowerSofar if-then
-      same-numbers e =
-          record {
-            room = rw (below-all .as-long) (mirrors .room);
-            whole = every-one .as-long ∙ mirrors .whole;
-            symmetric = λ r c h l. block-at r c h l ∙ turned r c h l ∙ sym (block-at c r l h);
-            same = λ r c h l. block-at r c l (omega arith) ∙ agree r c h l ∙ sym (work-at r c h l);
-          }
-        where
-          t : every askedBelow (dof * dof) ≡ true
-          t = told-well (every askedBelow (dof * dof)) (sym (lowly .0) ∙ e)
-
-          below-all : lowerSofar (dof * dof) (blockOf n dof b b j j w .1)
-          below-all = lowly .1 t
-
-          every-one : wholeSofar (dof * dof) (wholeBlock dof j block .1)
-          every-one = wholly .1 (same-answer ∙ t)
-
-          block-at : (r c : ℕ) → r < dof → c < dof → getD (wholeBlock dof j block .1) (r * dof + c) nan ≡ inBlock r c
-          block-at r c h l =
-              let m : r * dof + c < dof * dof = digits-lt h l in
-              every-one .places (r * dof + c) m refl ∙ (rw (lt-ltb (r * dof + c) (dof * dof) m, digits-div r l, digits-mod r l))
-
-          work-at : (r c : ℕ) → c ≤ r → r < dof → matrixOf (blockOf n dof b b j j w .1) n (b * dof + r) (b * dof + c) ≡ inWork r c
-          work-at r c h l =
-              let g : c < dof = omega arith in
-              let m : r * dof + c < dof * dof = digits-lt l g in
-              let q = below-all .places (r * dof + c) m (rw (digits-div r g, digits-mod r g) (le-leb (b * dof + c) (b * dof + r) (omega arith))) in
-              rw (lt-ltb (r * dof + c) (dof * dof) m, digits-div r g, digits-mod r g) at q
-
--- ---- a row of accumulations, as a diagonal block goes through them
-module _ (n dof b : ℕ) (fits : b * dof + dof ≤ n) where
-  -- both done with the same numbers, or both stopped at the same one
-  abbrev pub Alike : Ended (List Float) → Ended (List Float) → Type 0
-  Alike (done w) (done block) = Mirrors n dof b w block
-  Alike (stopped k why w) (stopped i because block) = (k ≡ i) × (why ≡ because)
-  Alike (done w) (stopped i because block) = ⊥
-  Alike (stopped k why w) (done block) = ⊥
-
-  turn-alike : (k : ℕ) (x y : Went × List Float) → y .0 ≡ x .0 → (x .0 ≡ Well → Mirrors n dof b (x .1) (y .1)) → Alike (turn k x) (turn k y)
-  turn-alike k (Well, w) (Well, block) e h = h refl
-  turn-alike k (Bad why, w) (Bad because, block) e h = (refl, cc)
-  turn-alike k (Well, w) (Bad because, block) e h = let z : _≡_ {A = ℕ} 0 1 = cc in omega arith
-  turn-alike k (Bad why, w) (Well, block) e h = let z : _≡_ {A = ℕ} 0 1 = cc in omega arith
-
-  pub accumulated : (j : ℕ → List (List Float)) (count : ℕ) (w block : List Float) → Mirrors n dof b w block
-      → Alike (each (λ k. blockOf n dof b b (j k) (j k)) count w) (each (λ k. wholeBlock dof (j k)) count block)
-  unfolding each
-  accumulated j zero w block m = m
-  accumulated j (suc i) w block m = go (each (λ k. blockOf n dof b b (j k) (j k)) i w) (each (λ k. wholeBlock dof (j k)) i block) (accumulated j i w block m)
-    where
-      go : (x y : Ended (List Float)) → Alike x y → Alike (next x i (λ k. blockOf n dof b b (j k) (j k))) (next y i (λ k. wholeBlock dof (j k)))
-      go (done w) (done block) m = turn-alike i _ _ (same-said dof n b fits (j i) w block m) (same-numbers dof n b fits (j i) w block m)
-      go (stopped k why w) (stopped q because block) e = e
-      go (done w) (stopped q because block) e = absurd e
-      go (stopped k why w) (done block) e = absurd e
-
-  -- they start from +0
-  pub from-zero : (w : List Float) → need n ≤ length w → Mirrors n dof b (cleared n w) (replicate (dof * dof) (num 0))
-  from-zero w h =
+  stored : (w v : List Float) (q : ℕ) (x : Float) → q < need n → Off q → Mirrored n dof w v → Mirrored n dof (set w q x) (set v q x)
+  stored w v q x l off s =
       record {
-        room = rw (cleared-length n w h) (omega arith);
-        whole = length-replicate (dof * dof) (num 0);
-        symmetric = λ r c p q. zeros r c p q ∙ sym (zeros c r q p);
-        same = λ r c p q. zeros r c q (omega arith) ∙ sym (cleared-at (b * dof + r) (b * dof + c) (omega arith) (omega arith));
+        room = simp length-set (s .room);
+        as-long = length-set w q x ∙ s .as-long ∙ sym (length-set v q x);
+        same = record { matrix = λ i j h o. at (j * n + i) (s .same .matrix i j h o); gradient = λ i h. at (n * n + n + i) (s .same .gradient i h) };
+        symmetric = λ b r c f h o. getD-set-other v q _ x nan (off b r c f h o) ∙ s .symmetric b r c f h o ∙ sym (getD-set-other v q _ x nan (off b c r f o h));
       }
     where
-      zeros : (r c : ℕ) → r < dof → c < dof → getD (replicate (dof * dof) (num 0)) (r * dof + c) nan ≡ num 0
-      zeros r c p q = getD-replicate (dof * dof) (r * dof + c) (num 0) nan (digits-lt p q)
+      at : (p : ℕ) → getD w p nan ≡ getD v p nan → getD (set w q x) p nan ≡ getD (set v q x) p nan
+      at p e = go (eqb p q) (eqb-true p q) (eqb-false p q)
+        where
+          go : (t : Bool) → (t ≡ true → p ≡ q) → (t ≡ false → p ≡ q → ⊥) → getD (set w q x) p nan ≡ getD (set v q x) p nan
+          go true i o =
+              let f : q < length w = (let z = s .room in omega arith) in
+              let g : q < length v = rw (s .as-long) at f in
+              rw (i refl) (getD-set-same w q x nan f ∙ sym (getD-set-same v q x nan g))
+          go false i o = getD-set-other w q p x nan (o refl) ∙ e ∙ sym (getD-set-other v q p x nan (o refl))
 
-      cleared-at : (i k : ℕ) → i < n → k < n → matrixOf (cleared n w) n i k ≡ num 0
-      cleared-at i k p q =
-          cleared-zero n w (k * n + i) (let z : k * n + i < n * n = digits-lt q p in omega arith)
+  added : (w v : List Float) (q : ℕ) (x : Float) → q < need n → Off q → getD w q nan ≡ getD v q nan → Mirrored n dof w v → Together (Mirrored n dof) Any (addTo w q x) (addTo v q x)
+  unfolding addTo mustBeFinite if-then
+  added w v q x l off e s = rw (← e) (go (getD w q nan ⊞ x) (finite (getD w q nan ⊞ x)))
+    where
+      go : (y : Float) (t : Bool) → Together (Mirrored n dof) Any (if-then t Well (Bad Numerical), set w q y) (if-then t Well (Bad Numerical), set v q y)
+      go y true = stored w v q y l off s
+      go y false = (refl, tt)
+
+  slope : (w v : List Float) (i : ℕ) (x : Float) → i < n → Mirrored n dof w v → Together (Mirrored n dof) Any (addTo w (n * n + n + i) x) (addTo v (n * n + n + i) x)
+  slope w v i x l s =
+      added w v (n * n + n + i) x (omega arith)
+      (λ b r c f h o e. let z : (b * dof + c) * n + (b * dof + r) < n * n = digits-lt (omega arith) (omega arith) in omega arith)
+      (s .same .gradient i l) s
+
+  -- a block below the diagonal: all of it is kept by both
+  below : (rb cb : ℕ) (jr jc : List (List Float)) (w v : List Float) → cb ≤ rb → (rb ≡ cb → ⊥) → rb * dof + dof ≤ n → Mirrored n dof w v
+      → Together (Mirrored n dof) Any (blockOf lowerTriangle n dof rb cb jr jc w) (blockOf wholeBlocks n dof rb cb jr jc v)
+  unfolding blockOf rowOf entryOf
+  below rb cb jr jc w v h ne fits s =
+      each-together (Mirrored n dof) Any _ _ dof w v
+      (λ r lr y z p. each-together (Mirrored n dof) Any _ _ dof y z (λ c lc. entry r c lr lc) p) s
+    where
+      over : cb * dof + dof ≤ rb * dof
+      over = ⊎-elim (λ (e : cb ≡ rb). absurd (ne (sym e))) (λ (l : cb < rb). omega (arith, mul-le-mul-right dof l, suc-mul cb dof)) (eq-or-lt-of-le h)
+
+      off : (r c : ℕ) → r < dof → c < dof → Off ((cb * dof + c) * n + (rb * dof + r))
+      off r c lr lc b r' c' f lr' lc' e =
+          let p = one-place n (b * dof + r') (b * dof + c') (rb * dof + r) (cb * dof + c) (omega arith) (omega arith) e in
+          ne (sym (digits-div rb lr) ∙ ap (λ q. q / dof) (sym (p .0)) ∙ digits-div b lr' ∙ sym (digits-div b lc') ∙ ap (λ q. q / dof) (p .1) ∙ digits-div cb lc)
+
+      entry : (r c : ℕ) → r < dof → c < dof → (y z : List Float) → Mirrored n dof y z
+          → Together (Mirrored n dof) Any (only (leb (cb * dof + c) (rb * dof + r)) (λ w. addTo w ((cb * dof + c) * n + (rb * dof + r)) (dotOf jr r jc c)) y)
+          (addTo z ((cb * dof + c) * n + (rb * dof + r)) (dotOf jr r jc c))
+      entry r c lr lc y z p =
+          let o : cb * dof + c ≤ rb * dof + r = (let q = over in omega arith) in
+          rw (le-leb (cb * dof + c) (rb * dof + r) o)
+          (added y z ((cb * dof + c) * n + (rb * dof + r)) (dotOf jr r jc c) (in-matrix (rb * dof + r) (cb * dof + c) (omega arith) (omega arith)) (off r c lr lc)
+          (p .same .matrix (rb * dof + r) (cb * dof + c) o (omega arith)) p)
+
+  -- ---- a block on the diagonal
+  told-together : (t : Bool) (x y : Went × List Float) → x .0 ≡ told t → y .0 ≡ told t → (t ≡ true → Mirrored n dof (x .1) (y .1)) → Together (Mirrored n dof) Any x y
+  unfolding if-then
+  told-together t (x, w) (y, v) e f h =
+      subst (λ (x : Went). Together (Mirrored n dof) Any (x, w) (y, v)) (sym e) (subst (λ (y : Went). Together (Mirrored n dof) Any (told t, w) (y, v)) (sym f) (go t h))
+    where
+      go : (t : Bool) → (t ≡ true → Mirrored n dof w v) → Together (Mirrored n dof) Any (told t, w) (told t, v)
+      go true h = h refl
+      go false h = (refl, tt)
+
+  module _ (b : ℕ) (j : List (List Float)) (w v : List Float) (fits : b * dof + dof ≤ n) (s : Mirrored n dof w v) where
+    wide : n * n ≤ length w
+    wide = let z = s .room in omega arith
+
+    wide' : n * n ≤ length v
+    wide' = rw (s .as-long) at wide
+
+    abbrev lower : ℕ → ℕ → Float
+    lower r c = sumAt n dof b j w r c
+
+    abbrev whole : ℕ → ℕ → Float
+    whole r c = sumAt n dof b j v r c
+
+    agree : (r c : ℕ) → c ≤ r → r < dof → lower r c ≡ whole r c
+    agree r c h l = ap (λ x. x ⊞ dotOf j r j c) (s .same .matrix (b * dof + r) (b * dof + c) (omega arith) (omega arith))
+
+    turned : (r c : ℕ) → r < dof → c < dof → whole r c ≡ whole c r
+    turned r c h l = ap₂ (λ x y. x ⊞ y) (s .symmetric b r c fits h l) (dot-turned j r j c)
+
+    -- every sum of the block is finite exactly if those on and below the diagonal are
+    same-answer : every (asked n dof b j w lowerTriangle) (dof * dof) ≡ every (asked n dof b j v wholeBlocks) (dof * dof)
+    same-answer = every-same _ _ (dof * dof) up down
+      where
+        up : ((k : ℕ) → k < dof * dof → asked n dof b j w lowerTriangle k ≡ true) → (k : ℕ) → k < dof * dof → asked n dof b j v wholeBlocks k ≡ true
+        up h = if-finite n dof b j v wholeBlocks (λ r c l o _. go r c l o (leb c r) (leb-true c r) (leb-false c r))
+          where
+            under : (r c : ℕ) → c ≤ r → r < dof → finite (whole r c) ≡ true
+            under r c h' l =
+                sym (ap finite (agree r c h' l)) ∙ then-finite n dof b j w lowerTriangle h r c l (omega arith) (le-leb (b * dof + c) (b * dof + r) (omega arith))
+
+            go : (r c : ℕ) → r < dof → c < dof → (t : Bool) → (t ≡ true → c ≤ r) → (t ≡ false → r < c) → finite (whole r c) ≡ true
+            go r c l o true f g = under r c (f refl) l
+            go r c l o false f g = ap finite (turned r c l o) ∙ under c r (let z = g refl in omega arith) o
+
+        down : ((k : ℕ) → k < dof * dof → asked n dof b j v wholeBlocks k ≡ true) → (k : ℕ) → k < dof * dof → asked n dof b j w lowerTriangle k ≡ true
+        down h =
+            if-finite n dof b j w lowerTriangle
+            (λ r c l o t. let z = leb-true (b * dof + c) (b * dof + r) t in ap finite (agree r c (omega arith) l) ∙ then-finite n dof b j v wholeBlocks h r c l o refl)
+
+    -- the block added to both
+    module _ (y z : List Float) (p : Added n dof b j w lowerTriangle y) (q : Added n dof b j v wholeBlocks z) where
+      -- an entry of the block; then one of the whole lower triangle
+      within : (r c : ℕ) → c ≤ r → r < dof → matrixOf y n (b * dof + r) (b * dof + c) ≡ matrixOf z n (b * dof + r) (b * dof + c)
+      within r c h l =
+          p .inside r c l (omega arith) (le-leb (b * dof + c) (b * dof + r) (omega arith)) ∙ agree r c h l ∙ sym (q .inside r c l (omega arith) refl)
+
+      matrix : (i k : ℕ) → k ≤ i → i < n → matrixOf y n i k ≡ matrixOf z n i k
+      matrix i k h l = go (leb (b * dof) k) (ltb i (b * dof + dof)) (leb-true _ _) (leb-false _ _) (ltb-true _ _) (ltb-false _ _)
+        where
+          without : ((r c : ℕ) → r < dof → c < dof → i ≡ b * dof + r → k ≡ b * dof + c → ⊥) → matrixOf y n i k ≡ matrixOf z n i k
+          without o = p .outside (k * n + i) off ∙ s .same .matrix i k h l ∙ sym (q .outside (k * n + i) off)
+            where
+              off : (r c : ℕ) → r < dof → c < dof → k * n + i ≡ (b * dof + c) * n + (b * dof + r) → ⊥
+              off r c lr lc e = let t = one-place n i k (b * dof + r) (b * dof + c) l (omega arith) e in o r c lr lc (t .0) (t .1)
+
+          go : (t u : Bool) → (t ≡ true → b * dof ≤ k) → (t ≡ false → k < b * dof) → (u ≡ true → i < b * dof + dof) → (u ≡ false → b * dof + dof ≤ i) → matrixOf y n i k ≡ matrixOf z n i k
+          go true true f _ g _ =
+              let fk = f refl in
+              let gi = g refl in
+              let ei : b * dof + (i - b * dof) ≡ i = omega arith in
+              let ek : b * dof + (k - b * dof) ≡ k = omega arith in
+              rw (ei, ek) at (within (i - b * dof) (k - b * dof) (omega arith) (omega arith))
+          go true false _ _ _ g = without (λ r c lr lc ei ek. let gi = g refl in omega arith)
+          go false true _ f _ _ = without (λ r c lr lc ei ek. let fk = f refl in omega arith)
+          go false false _ f _ _ = without (λ r c lr lc ei ek. let fk = f refl in omega arith)
+
+      still-symmetric : (b' r c : ℕ) → b' * dof + dof ≤ n → r < dof → c < dof → matrixOf z n (b' * dof + r) (b' * dof + c) ≡ matrixOf z n (b' * dof + c) (b' * dof + r)
+      still-symmetric b' r c f h l = go (eqb b' b) (eqb-true b' b) (eqb-false b' b)
+        where
+          go : (t : Bool) → (t ≡ true → b' ≡ b) → (t ≡ false → b' ≡ b → ⊥) → matrixOf z n (b' * dof + r) (b' * dof + c) ≡ matrixOf z n (b' * dof + c) (b' * dof + r)
+          go true e _ = rw (e refl) (q .inside r c h l refl ∙ turned r c h l ∙ sym (q .inside c r l h refl))
+          go false _ o = other r c h l ∙ s .symmetric b' r c f h l ∙ sym (other c r l h)
+            where
+              other : (r c : ℕ) → r < dof → c < dof → matrixOf z n (b' * dof + r) (b' * dof + c) ≡ matrixOf v n (b' * dof + r) (b' * dof + c)
+              other r c h l =
+                  q .outside _
+                  (λ x y lx ly e. let t = one-place n (b' * dof + r) (b' * dof + c) (b * dof + x) (b * dof + y) (omega arith) (omega arith) e in
+                  o refl (sym (digits-div b' h) ∙ ap (λ i. i / dof) (t .0) ∙ digits-div b lx))
+
+      still : Mirrored n dof y z
+      still =
+          record {
+            room = rw (p .as-long) (s .room);
+            as-long = p .as-long ∙ s .as-long ∙ sym (q .as-long);
+            same = record { matrix = matrix; gradient = λ i l. p .outside _ (past i) ∙ s .same .gradient i l ∙ sym (q .outside _ (past i)) };
+            symmetric = still-symmetric;
+          }
+        where
+          past : (i r c : ℕ) → r < dof → c < dof → n * n + n + i ≡ (b * dof + c) * n + (b * dof + r) → ⊥
+          past i r c h l e = let z : (b * dof + c) * n + (b * dof + r) < n * n = digits-lt (omega arith) (omega arith) in omega arith
+
+    diagonal : Together (Mirrored n dof) Any (blockOf lowerTriangle n dof b b j j w) (blockOf wholeBlocks n dof b b j j v)
+    diagonal =
+        let p = block-added n dof b j w lowerTriangle fits wide in
+        let q = block-added n dof b j v wholeBlocks fits wide' in
+        told-together _ _ _ (p .0) (q .0 ∙ ap told (sym same-answer)) (λ e. still _ _ (p .1 e) (q .1 (sym same-answer ∙ e)))
+
+  -- ---- both start from +0
+  start : (w : List Float) → Mirrored n dof (cleared n w) (cleared n w)
+  start w =
+      record {
+        room = cleared-room n w;
+        as-long = refl;
+        same = record { matrix = λ i j h l. refl; gradient = λ i l. refl };
+        symmetric = λ b r c f h l. zero (b * dof + r) (b * dof + c) (omega arith) (omega arith) ∙ sym (zero (b * dof + c) (b * dof + r) (omega arith) (omega arith));
+      }
+    where
+      zero : (i k : ℕ) → i < n → k < n → matrixOf (cleared n w) n i k ≡ num 0
+      zero i k l h = cleared-zero n w (k * n + i) (in-matrix i k l h)
+
+-- ---- so both are done with the same system, or stop at the same edge
+pub whole-blocks : (m : Manifold) (n : ℕ) (l : Links Edge) (pose : ℕ → Pose) (w : List Float) → Fits m n l → Apart l
+    → Alike n (assembledEnds m n l pose w) (endsBy wholeBlocks m n l pose w)
+unfolding assembledEnds
+whole-blocks m n l pose w f o =
+    go (endsBy lowerTriangle m n l pose w) (endsBy wholeBlocks m n l pose w)
+    (edges-abreast lowerTriangle wholeBlocks n m ⊥ (Mirrored n (dofOf m)) Any (λ _ _ _. tt) (slope n (dofOf m)) (diagonal n (dofOf m)) (below n (dofOf m))
+    l pose w f o (start n (dofOf m) w))
+  where
+    go : (x y : Ended (List Float)) → Abreast (Mirrored n (dofOf m)) Any x y → Alike n x y
+    go (done w) (done v) s = s .same
+    go (stopped k why w) (stopped i because v) e = (e .0, e .1)
+    go (done w) (stopped i because v) e = e
+    go (stopped k why w) (done v) e = e
+
+-- where each edge of a graph joins two poses they are apart, since free poses have blocks of their own
+pub graph-apart : {P M : Type 0} (g : Graph P M) → ((k : ℕ) → k < g .edges → g .a k ≡ g .b k → ⊥) → Apart (linksOf g)
+unfolding linksOf slotAt if-then
+graph-apart g two k l b ea eb = go (ltb (g .a k) (g .b k)) (ltb (g .b k) (g .a k)) (ltb-true _ _) (ltb-false _ _) (ltb-true _ _) (ltb-false _ _)
+  where
+    free : (x : ℕ) → slotAt g x ≡ Block b → (isFree g x ≡ true) × (count (isFree g) x ≡ b)
+    free x e = at (isFree g x) refl e
+      where
+        at : (t : Bool) → isFree g x ≡ t → if-then t (Block (count (isFree g) x)) Fixed ≡ Block b → (isFree g x ≡ true) × (count (isFree g) x ≡ b)
+        at true f q = (f, cc)
+        at false f q = absurd (let z : _≡_ {A = ℕ} 0 1 = cc in omega arith)
+
+    never : (x y : ℕ) → x < y → slotAt g x ≡ Block b → slotAt g y ≡ Block b → ⊥
+    never x y h ex ey =
+        let lower : count (isFree g) x < count (isFree g) y = count-below (isFree g) x y h (free x ex .0) in
+        omega (arith, free x ex .1, free y ey .1)
+
+    go : (t u : Bool) → (t ≡ true → g .a k < g .b k) → (t ≡ false → g .b k ≤ g .a k) → (u ≡ true → g .b k < g .a k) → (u ≡ false → g .a k ≤ g .b k) → ⊥
+    go true u f _ _ _ = never (g .a k) (g .b k) (f refl) ea eb
+    go false true _ _ f _ = never (g .b k) (g .a k) (f refl) eb ea
+    go false false _ f _ h = two k l (let x = f refl in let y = h refl in omega arith)

@@ -11,7 +11,7 @@ ghost use Rattle.graph.specs.Graph.{isActive};
 ghost use Rattle.graph.specs.Lent.{dofOf, poseAt, lentLinks};
 ghost use Rattle.graph.specs.declared.Slot.the-variants.{Block};
 ghost use Rattle.assembly.specs.Jacobians.{movedResidual, slope, slopeVec, derivative, columnOf, putSix, codeOf, wentOf, jacobianOf};
-ghost use Rattle.assembly.specs.Assembly.{dotOf, dotWith, addTo, gradientOf, entryOf, rowOf, blockOf, endOf, crossOf, endsOf, oneOf, bothOf, edgeOf, addAt, assembledOf};
+ghost use Rattle.assembly.specs.Assembly.{dotOf, dotWith, addTo, gradientOf, lowerTriangle, entryOf, rowOf, blockOf, endOf, crossOf, endsOf, oneOf, bothOf, edgeOf, addAt, assembledOf};
 use graph::Edge;
 use graph::Manifold;
 use graph::Slot;
@@ -238,7 +238,7 @@ fn add_entry(
     c: usize,
 ) -> Went
     requires { ⌜ (row < n) × (col < n) × (need n ≤ length (now w)) × (r < 6) × (c < 6) ⌝ }
-    ensures { λ went. ⌜ (went, now (w .exit)) ≡ entryOf n row col (now (jr .entry)) r (now (jc .entry)) c (now (w .entry)) ⌝ }
+    ensures { λ went. ⌜ (went, now (w .exit)) ≡ entryOf lowerTriangle n row col (now (jr .entry)) r (now (jc .entry)) c (now (w .entry)) ⌝ }
 {
     if row < col {
         return Went::Well;
@@ -259,7 +259,7 @@ fn accumulate_row(
     r: usize,
 ) -> Went
     requires { ⌜ (rb * dof + dof ≤ n) × (cb * dof + dof ≤ n) × (need n ≤ length (now w)) × (dof ≤ 6) × (r < dof) ⌝ }
-    ensures { λ went. ⌜ (went, now (w .exit)) ≡ rowOf n dof rb cb (now (jr .entry)) (now (jc .entry)) r (now (w .entry)) ⌝ }
+    ensures { λ went. ⌜ (went, now (w .exit)) ≡ rowOf lowerTriangle n dof rb cb (now (jr .entry)) (now (jc .entry)) r (now (w .entry)) ⌝ }
 {
     for c in 0..dof {
         if let Went::Bad(why) = add_entry(w, n, rb * dof + r, cb * dof + c, jr, r, jc, c) {
@@ -280,7 +280,7 @@ fn accumulate_hessian(
     jc: &[[f32; 6]; 6],
 ) -> Went
     requires { ⌜ (rb * dof + dof ≤ n) × (cb * dof + dof ≤ n) × (need n ≤ length (now w)) × (dof ≤ 6) ⌝ }
-    ensures { λ went. ⌜ (went, now (w .exit)) ≡ blockOf n dof rb cb (now (jr .entry)) (now (jc .entry)) (now (w .entry)) ⌝ }
+    ensures { λ went. ⌜ (went, now (w .exit)) ≡ blockOf lowerTriangle n dof rb cb (now (jr .entry)) (now (jc .entry)) (now (w .entry)) ⌝ }
 {
     for r in 0..dof {
         if let Went::Bad(why) = accumulate_row(w, n, dof, rb, cb, jr, jc, r) {
@@ -293,7 +293,7 @@ fn accumulate_hessian(
 // A free end: its part of the gradient, then its block on the diagonal.
 fn add_end(w: &mut [f32], n: usize, dof: usize, b: usize, j: &[[f32; 6]; 6], r: &[f32; 6]) -> Went
     requires { ⌜ (b * dof + dof ≤ n) × (need n ≤ length (now w)) × (dof ≤ 6) ⌝ }
-    ensures { λ went. ⌜ (went, now (w .exit)) ≡ endOf n dof b (now (j .entry)) (now (r .entry)) (now (w .entry)) ⌝ }
+    ensures { λ went. ⌜ (went, now (w .exit)) ≡ endOf lowerTriangle n dof b (now (j .entry)) (now (r .entry)) (now (w .entry)) ⌝ }
 {
     let at = n * n + n + b * dof;
     if let Went::Bad(why) = accumulate_gradient(&mut w[at..], dof, j, r) {
@@ -313,7 +313,7 @@ fn add_cross(
     jb: &[[f32; 6]; 6],
 ) -> Went
     requires { ⌜ (ba * dof + dof ≤ n) × (bb * dof + dof ≤ n) × (need n ≤ length (now w)) × (dof ≤ 6) ⌝ }
-    ensures { λ went. ⌜ (went, now (w .exit)) ≡ crossOf n dof ba bb (now (ja .entry)) (now (jb .entry)) (now (w .entry)) ⌝ }
+    ensures { λ went. ⌜ (went, now (w .exit)) ≡ crossOf lowerTriangle n dof ba bb (now (ja .entry)) (now (jb .entry)) (now (w .entry)) ⌝ }
 {
     if ba < bb {
         return accumulate_hessian(w, n, dof, bb, ba, jb, ja);
@@ -333,7 +333,7 @@ fn add_ends(
     r: &[f32; 6],
 ) -> Went
     requires { ⌜ (i * dof + dof ≤ n) × (k * dof + dof ≤ n) × (need n ≤ length (now w)) × (dof ≤ 6) ⌝ }
-    ensures { λ went. ⌜ (went, now (w .exit)) ≡ endsOf n dof i k (now (ja .entry)) (now (jb .entry)) (now (r .entry)) (now (w .entry)) ⌝ }
+    ensures { λ went. ⌜ (went, now (w .exit)) ≡ endsOf lowerTriangle n dof i k (now (ja .entry)) (now (jb .entry)) (now (r .entry)) (now (w .entry)) ⌝ }
 {
     if let Went::Bad(why) = add_end(w, n, dof, i, ja, r) {
         return Went::Bad(why);
@@ -358,7 +358,7 @@ fn add_one(
     block: usize,
 ) -> Went
     requires { ⌜ (block * dofOf m + dofOf m ≤ n) × (need n ≤ length (now w)) ⌝ }
-    ensures { λ went. ⌜ (went, now (w .exit)) ≡ oneOf m n a b edge end block (now (w .entry)) ⌝ }
+    ensures { λ went. ⌜ (went, now (w .exit)) ≡ oneOf lowerTriangle m n a b edge end block (now (w .entry)) ⌝ }
 {
     let d = match residual::weighted_relative_residual(a, b, edge) {
         Residual::Six(d) => d,
@@ -385,7 +385,7 @@ fn add_both(
     k: usize,
 ) -> Went
     requires { ⌜ (i * dofOf m + dofOf m ≤ n) × (k * dofOf m + dofOf m ≤ n) × (need n ≤ length (now w)) ⌝ }
-    ensures { λ went. ⌜ (went, now (w .exit)) ≡ bothOf m n a b edge i k (now (w .entry)) ⌝ }
+    ensures { λ went. ⌜ (went, now (w .exit)) ≡ bothOf lowerTriangle m n a b edge i k (now (w .entry)) ⌝ }
 {
     let d = match residual::weighted_relative_residual(a, b, edge) {
         Residual::Six(d) => d,
@@ -416,7 +416,7 @@ fn add_edge(
     sb: Slot,
 ) -> Went
     requires { ⌜ ((i : ℕ) → sa ≡ Block i → i * dofOf m + dofOf m ≤ n) × ((i : ℕ) → sb ≡ Block i → i * dofOf m + dofOf m ≤ n) × (need n ≤ length (now w)) ⌝ }
-    ensures { λ went. ⌜ (went, now (w .exit)) ≡ edgeOf m n a b edge sa sb (now (w .entry)) ⌝ }
+    ensures { λ went. ⌜ (went, now (w .exit)) ≡ edgeOf lowerTriangle m n a b edge sa sb (now (w .entry)) ⌝ }
 {
     match sa {
         Slot::Fixed => match sb {
@@ -443,7 +443,7 @@ fn add_edge_at(
     k: usize,
 ) -> Went
     requires { ⌜ (n ≡ dofOf m * free) × (need n ≤ length (now w)) × (k < 2 ^ 62) ⌝ }
-    ensures { λ went. ⌜ (went, now (w .exit)) ≡ only (isActive (lentLinks (now (ends .entry)) (now (edges .entry)) (now (blocks .entry)) free) k) (addAt m n (lentLinks (now (ends .entry)) (now (edges .entry)) (now (blocks .entry)) free) (poseAt (now (poses .entry))) k) (now (w .entry)) ⌝ }
+    ensures { λ went. ⌜ (went, now (w .exit)) ≡ only (isActive (lentLinks (now (ends .entry)) (now (edges .entry)) (now (blocks .entry)) free) k) (addAt lowerTriangle m n (lentLinks (now (ends .entry)) (now (edges .entry)) (now (blocks .entry)) free) (poseAt (now (poses .entry))) k) (now (w .entry)) ⌝ }
 {
     let ia = numbers::index_at(ends, k * 2);
     let ib = numbers::index_at(ends, k * 2 + 1);

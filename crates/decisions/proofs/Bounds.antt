@@ -26,7 +26,7 @@ use Rattle.decisions.specs.declared.Event.{Event}
 use Rattle.decisions.specs.declared.Event.the-variants as event
 use Rattle.decisions.specs.declared.Next.{Next}
 use Rattle.decisions.specs.declared.Next.the-variants as next
-use Rattle.decisions.proofs.Order.{lt-through}
+use Rattle.numbers.proofs.Order.{lt-through}
 use Rattle.decisions.proofs.Levels.{At, raise-at, raise-ground, lower-at, lower-ground, first-at}
 use Rattle.decisions.proofs.Ways.{Both, Past, Cases, either, turn-cases}
 

@@ -15,7 +15,7 @@ use lib.Ieee.Order.{round-mono}
 use lib.Ieee.Positive.{num, den, den-pos}
 use Rattle.numbers.specs.Notation.{num as number, ratio, ratio32, if-then}
 use Rattle.decisions.specs.Damping.{factor, least, most, increased, decreased}
-use Rattle.decisions.proofs.Order.{plain, unsigned, le→frac, frac→le, le-through, le-of-not-lt, le-of-lt', plain-below, plain-unsigned, round-unsigned}
+use Rattle.numbers.proofs.Order.{plain, unsigned, le→frac, frac→le, le-through, le-of-not-lt, le-of-lt', plain-below, plain-unsigned, round-unsigned}
 
 unfoldable pub rung : ℕ → Float
 rung zero = fin false 1 (negsuc 148)
@@ -202,6 +202,45 @@ not-top : (d : Float) → T (plain d) → T (le d most) → T (le (rung 55) d) �
 not-top d p u h =
     clash most (rung 55) most-plain (rung-plain 55 (le-of-eq refl)) rung-top
     (le-through (rung 55) d most (plain-unsigned (rung 55) (rung-plain 55 (le-of-eq refl))) (plain-unsigned d p) (plain-unsigned most most-plain) h u)
+
+-- no rung is below the first
+above-ground : (k : ℕ) → k ≤ 54 → T (le (rung 0) (rung k))
+unfolding rung
+above-ground zero h = same (rung 0) (rung-plain 0 zero-le)
+above-ground (suc k) h =
+    let p : T (plain (rung k)) = rung-plain k (omega arith) in
+    le-through (rung 0) (rung 1) (rung (suc k)) (plain-unsigned (rung 0) (rung-plain 0 zero-le)) (plain-unsigned (rung 1) (rung-plain 1 (leb→le 1 55 tt))) (increased-unsigned (rung k) p) first-up
+    (increased-mono (rung 0) (rung k) (rung-plain 0 zero-le) p (above-ground k (omega arith)))
+
+zero-unsigned : T (unsigned (number 0))
+unfolding ratio
+zero-unsigned = tt
+
+zero-below : T (le (rung 0) (number 0)) → ⊥
+unfolding rung le ratio
+zero-below h = h
+
+-- a damping at a level is above 0, and not above 1e10
+module _ (k : ℕ) (d : Float) (a : At k d) where
+  pub at-above : lt (number 0) d ≡ true
+  at-above = go (lt (number 0) d) refl
+    where
+      go : (b : Bool) → lt (number 0) d ≡ b → b ≡ true
+      go true e = refl
+      go false e =
+          let r : T (unsigned (rung 0)) = plain-unsigned (rung 0) (rung-plain 0 zero-le) in
+          let s : T (unsigned (rung k)) = plain-unsigned (rung k) (rung-plain k (le-trans (a .low) (leb→le 54 55 tt))) in
+          let t : T (unsigned d) = plain-unsigned d (a .is-plain) in
+          absurd (zero-below
+          (le-through (rung 0) (rung k) (number 0) r s zero-unsigned (above-ground k (a .low))
+          (le-through (rung k) d (number 0) s t zero-unsigned (a .above) (le-of-not-lt d (number 0) t zero-unsigned e))))
+
+  pub at-most : lt most d ≡ false
+  at-most = go (lt most d) refl
+    where
+      go : (b : Bool) → lt most d ≡ b → b ≡ false
+      go true e = absurd (clash most d most-plain (a .is-plain) (subst T (sym e) tt) (a .under))
+      go false e = refl
 
 -- at or above a rung up to 55, and up to 1e10: at that level
 at-of : (k : ℕ) (d : Float) → k ≤ 55 → T (plain d) → T (le (rung k) d) → T (le d most) → At k d

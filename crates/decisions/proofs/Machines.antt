@@ -144,6 +144,10 @@ module _ {X : Type 0} (m : Numerics X) (limit : ℕ) (tolerance : Float) where
         kept-held limit cost (played m limit tolerance cost damping x .next)
         (play-keeps (enough limit) cost (next.On (begun cost damping)) x (begun-live limit cost damping l f p u))
 
+    -- a state that it goes on from is live
+    pub played-live : (k : ℕ) (s : State) → play m limit tolerance k (next.On (begun cost damping)) x .next ≡ next.On s → Live limit cost s
+    played-live k s e = subst (Kept limit cost) e (play-keeps k cost (next.On (begun cost damping)) x (begun-live limit cost damping l f p u))
+
     -- it has ended
     pub played-ends : ended (played m limit tolerance cost damping x .next) ≡ true
     played-ends = play-ends (enough limit) cost (begun cost damping) x (begun-live limit cost damping l f p u) (omega arith)

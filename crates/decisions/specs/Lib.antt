@@ -3,3 +3,4 @@ pub mod Run
 pub mod Driven
 pub mod Machine
 pub mod Demand
+pub mod Samples

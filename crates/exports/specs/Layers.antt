@@ -19,7 +19,7 @@ use Rattle.rotations.specs.declared.Moved.{Moved}
 use Rattle.rotations.specs.declared.Moved.the-variants as moved
 use Rattle.pose_conversion.specs.declared.Restored.{Restored}
 use Rattle.pose_conversion.specs.declared.Restored.the-variants as restored
-use Rattle.graph.specs.Lent.{poseFrom, edgeFrom}
+use Rattle.graph.specs.Lent.{poseFrom, edgeFrom, numbersOf}
 use Rattle.graph.specs.declared.Edge.{Edge}
 use Rattle.graph.specs.declared.Manifold.the-variants.{Se3, Gravity}
 use Rattle.residual.specs.Residuals.{residualOf, sixOf}
@@ -67,13 +67,6 @@ pose l = poseFrom (at l)
 abbrev pub edge : List Float → Edge
 edge l = edgeFrom (at l)
 
-abbrev pub poseNumbers : Pose → List Float
-poseNumbers p =
-    p.rotation .x .x ∷ p.rotation .x .y ∷ p.rotation .x .z
-    ∷ p.rotation .y .x ∷ p.rotation .y .y ∷ p.rotation .y .z
-    ∷ p.rotation .z .x ∷ p.rotation .z .y ∷ p.rotation .z .z
-    ∷ p.translation .x ∷ p.translation .y ∷ p.translation .z ∷ []
-
 -- 0 and the new list where the lengths are right
 unfoldable pub quaternionOut : List Float → List Float → ℕ × List Float
 quaternionOut m out =
@@ -101,7 +94,7 @@ unfoldable pub expOut : List Float → List Float → ℕ × List Float
 expOut δ out = if-then (eqb (length δ) 6 && eqb (length out) 7) (movedOut out (expOf (three δ) (vec (at δ 3) (at δ 4) (at δ 5)))) (unfit, out)
 
 abbrev pub restoredOut : List Float → Restored → ℕ × List Float
-restoredOut out (restored.Into p) = (0, poseNumbers p)
+restoredOut out (restored.Into p) = (0, numbersOf p)
 restoredOut out (restored.Bad why) = (1, out)
 
 unfoldable pub retractOut : List Float → List Float → List Float → ℕ × List Float

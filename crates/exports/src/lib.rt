@@ -9,16 +9,16 @@ ghost use Rattle.numbers.specs.Notation.{num, if-then};
 ghost use Rattle.numbers.specs.Numbers.{narrowed, root32, root64};
 ghost use Rattle.numbers.specs.Refusals.{verdict};
 ghost use Rattle.rotations.specs.Rotation.{vec};
-ghost use Rattle.graph.specs.Lent.{lent, dofOf, poseAt, lentLinks};
+ghost use Rattle.graph.specs.Lent.{lent, dofOf, poseAt, lentLinks, numbersOf};
 ghost use Rattle.graph.specs.Table.{settingRows};
 ghost use Rattle.residual.specs.Residuals.{sixOf};
 ghost use Rattle.solve.specs.Work.{need};
 ghost use Rattle.assembly.specs.Assembly.{assembledEnds};
 ghost use Rattle.decisions.specs.Run.{iterations};
 ghost use Rattle.decisions.specs.Machine.{stateOf};
-ghost use Rattle.sparse_pgo.specs.Parts.{hasConverged, answerOf};
+ghost use Rattle.sparse_pgo.specs.Parts.{answerOf};
 ghost use Rattle.sparse_pgo.specs.Optimize.{optimized};
-ghost use Rattle.exports.specs.Layers.{at, matrixFrom, transformFrom, quatNumbers, transformNumbers, poseNumbers, three};
+ghost use Rattle.exports.specs.Layers.{at, matrixFrom, transformFrom, quatNumbers, transformNumbers, three};
 ghost use Rattle.exports.specs.Layers.{quaternionOut, productOut, inverseOut, logOut, expOut, retractOut, retractGravityOut, residualOut, solveOut};
 ghost use Rattle.exports.specs.Exported.{stopNumber, flag, place32, told, settings, lists, roomOf, exported};
 ghost use Rattle.exports.specs.Exported.{decidedAs, decideFrom, known, decided, assembling, systemOut, systemOf, assembleOut};
@@ -96,27 +96,9 @@ fn put_twist(out: &mut [f32], d: Twist)
 
 fn put_pose(out: &mut [f64], p: Pose)
     requires { ⌜ length (now out) ≡ 12 ⌝ }
-    ensures { λ _. ⌜ now (out .exit) ≡ poseNumbers p ⌝ }
+    ensures { λ _. ⌜ now (out .exit) ≡ numbersOf p ⌝ }
 {
-    let m = p.rotation;
-    let t = p.translation;
-    give64(
-        out,
-        &[
-            m.x.x,
-            m.x.y,
-            m.x.z,
-            m.y.x,
-            m.y.y,
-            m.y.z,
-            m.z.x,
-            m.z.y,
-            m.z.z,
-            t.x,
-            t.y,
-            t.z,
-        ],
-    );
+    give64(out, &graph::numbers_of(p));
 }
 
 fn vec32_from(l: &[f32], j: usize) -> Vec3F32
@@ -568,18 +550,6 @@ pub extern "C" fn pgo_optimize_with_gravity(
 
 // ---- the decisions over a prepared list
 
-fn has_converged(w: Why) -> bool
-    ensures { λ r. ⌜ r ≡ hasConverged w ⌝ }
-{
-    match w {
-        Why::Budget => false,
-        Why::Gradient => true,
-        Why::Step => true,
-        Why::Cost => true,
-        Why::Damping => false,
-    }
-}
-
 fn answer_from(first: f32, s: State, e: End) -> Answer
     requires { ⌜ iterations s < 4294967296 ⌝ }
     ensures { λ r. ⌜ r ≡ answerOf first (Next.Over s e) ⌝ }
@@ -588,7 +558,7 @@ fn answer_from(first: f32, s: State, e: End) -> Answer
         End::Refused(r) => Answer::Refused(r),
         End::Stopped(w) => Answer::Joined(Joined {
             iterations: s.accepted + s.rejected,
-            converged: has_converged(w),
+            converged: sparse_pgo::has_converged(w),
             accepted: s.accepted,
             rejected: s.rejected,
             failed: s.failed,

@@ -23,8 +23,9 @@ use Rattle.graph.specs.declared.Checks.{Checks}
 use Rattle.graph.specs.Graph.{Graph, touches, isFree, freeCount}
 use Rattle.graph.specs.Lent.{Input, graphOf, lentGraph, lent, unset, dofOf}
 use Rattle.graph.specs.Table.{tooMany, shortWork, edgeFaults, graphRows, settingRows, countsOf, settle, blockNumber, blocksOf, graphChecks, checks}
-use Rattle.graph.proofs.General.{neither-first, neither-second, some-never, count-above}
-use Rattle.graph.proofs.Reading.{ask-fine, row-fault, row-at}
+use Rattle.numbers.proofs.Walking.{some-never, count-above}
+use Rattle.numbers.proofs.Tests.{neither-first, neither-second}
+use Rattle.numbers.proofs.Reading.{ask-fine, row-fault, row-at}
 
 pub dof-most : (m : Manifold) → dofOf m ≤ 6
 dof-most Se3 = omega arith

@@ -10,7 +10,7 @@ use Rattle.numbers.proofs.Walking.{some-none, some-step}
 use Rattle.numbers.proofs.Tables.{table-ext}
 use Rattle.graph.specs.Graph.{touches}
 use Rattle.graph.specs.Lent.{lentGraph, endA, endB}
-use Rattle.graph.proofs.General.{put, mark-table, clear-table}
+use Rattle.numbers.proofs.Filling.{put, mark-table, clear-table}
 
 -- ---- the poses that the first k edges name
 abbrev pub namedBy : List ℕ → ℕ → ℕ → Bool

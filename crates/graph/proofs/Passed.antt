@@ -24,8 +24,8 @@ use Rattle.graph.specs.Graph.{Graph, isFree, blockOf, freeCount, slotAt,
 use Rattle.graph.specs.Lent.{Input, graphOf, dofOf, none, slotIn, lentLinks, endA, endB}
 use Rattle.graph.specs.Table.{badGravity, unfit, tooMany, shortWork, badTolerance, badDamping, poseFaults, edgeFaults, fixedFaults}
 use Rattle.graph.specs.Table.{graphRows, settingRows, rows, countsOf, blockNumber, blocksOf, graphChecks, checks}
-use Rattle.graph.proofs.Reading.{ask-fine, row-fault, row-at, read-before}
-use Rattle.graph.proofs.General.{neither-first, neither-second}
+use Rattle.numbers.proofs.Reading.{ask-fine, row-fault, row-at, read-before}
+use Rattle.numbers.proofs.Tests.{neither-first, neither-second}
 use Rattle.graph.proofs.Answers.{ends-in, settle-fit}
 
 -- rows 1 to 14

@@ -1,7 +1,7 @@
 -- What the lent numbers mean: poses of twelve f64, ends of two u32, edges of eight f32, a list of fixed poses. Definitions only.
 use Prim.Native.Nat.{ℕ, _+_, _*_, _/_}
 use mathlib.Core.Bool.{Bool}
-use mathlib.Core.List.{List}
+use mathlib.Core.List.{List, [], _∷_}
 use lib.ListN.{length, getD}
 use lib.Dec.{eqb, ltb}
 use lib.Ieee.{Float, nan}
@@ -33,6 +33,14 @@ poseFrom f =
 
 abbrev pub poseAt : List Float → ℕ → Pose
 poseAt l x = poseFrom (λ j. getD l (x * 12 + j) nan)
+
+-- the twelve numbers of a pose, in that order
+abbrev pub numbersOf : Pose → List Float
+numbersOf p =
+    p.rotation .x .x ∷ p.rotation .x .y ∷ p.rotation .x .z
+    ∷ p.rotation .y .x ∷ p.rotation .y .y ∷ p.rotation .y .z
+    ∷ p.rotation .z .x ∷ p.rotation .z .y ∷ p.rotation .z .z
+    ∷ p.translation .x ∷ p.translation .y ∷ p.translation .z ∷ []
 
 -- an edge of eight numbers: quaternion x, y, z, w, translation, weight
 unfoldable pub edgeFrom : (ℕ → Float) → Edge

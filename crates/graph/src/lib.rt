@@ -14,7 +14,7 @@ ghost use Rattle.numbers.specs.Walks.{some, count, table};
 ghost use Rattle.rotations.specs.Rotation.{vec};
 ghost use Rattle.pose_conversion.specs.Conversions.{finiteTransform};
 ghost use Rattle.graph.specs.Graph.{touches, isFree};
-ghost use Rattle.graph.specs.Lent.{dofOf, poseFrom, poseAt, edgeFrom, edgeAt, endA, endB, lentGraph, none, slotIn, lent, unset};
+ghost use Rattle.graph.specs.Lent.{dofOf, poseFrom, poseAt, numbersOf, edgeFrom, edgeAt, endA, endB, lentGraph, none, slotIn, lent, unset};
 ghost use Rattle.graph.specs.Table.{badGravity, unfit, tooMany, shortWork, badTolerance, badDamping};
 ghost use Rattle.graph.specs.Table.{poseFaults, edgeFaults, fixedFaults, graphRows, settingRows, settle, blockNumber, graphChecks, checks};
 use numbers::Refusal;
@@ -136,6 +136,28 @@ pub fn pose_at(poses: &[f64], x: usize) -> Pose
         },
         translation: vec3_at(poses, at, 9),
     }
+}
+
+// The twelve numbers of a pose.
+pub fn numbers_of(p: Pose) -> [f64; 12]
+    ensures { λ r. ⌜ r ≡ numbersOf p ⌝ }
+{
+    let m = p.rotation;
+    let t = p.translation;
+    [
+        m.x.x,
+        m.x.y,
+        m.x.z,
+        m.y.x,
+        m.y.y,
+        m.y.z,
+        m.z.x,
+        m.z.y,
+        m.z.z,
+        t.x,
+        t.y,
+        t.z,
+    ]
 }
 
 // The transform that starts at `at`.

@@ -203,5 +203,5 @@ damping (inf false) p b = absurd (true≢false b)
 damping (fin true n g) p b = absurd (true≢false (sym p))
 damping (fin false n g) p b = upto (le-trans (le-of-eq (sym (mul-one (n * up g)))) (ltb-false (10000000000 * down g) (n * up g * 1) b))
 
-pub damped-finite : (x d : Float) → T (fits binary32 x) → finite x ≡ true → T (fits binary32 d) → lt (num 0) d ≡ true → lt (ratio32 10000000000 1) d ≡ false → finite d ≡ true → finite (x ⊞ d) ≡ true
-damped-finite x d h t g p b u = is-true (finite (x ⊞ d)) (add-finite binary32 10000000000 x d h (subst T (sym t) tt) (damping d p b) (unfold round in tt))
+pub damped-finite : (x d : Float) → T (fits binary32 x) → finite x ≡ true → lt (num 0) d ≡ true → lt (ratio32 10000000000 1) d ≡ false → finite (x ⊞ d) ≡ true
+damped-finite x d h t p b = is-true (finite (x ⊞ d)) (add-finite binary32 10000000000 x d h (subst T (sym t) tt) (damping d p b) (unfold round in tt))

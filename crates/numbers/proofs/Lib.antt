@@ -1,7 +1,15 @@
 pub mod Choices
+pub mod Tests
 pub mod Walking
+pub mod Rows
+pub mod Invariants
 pub mod Tables
+pub mod Filling
+pub mod Laying
+pub mod Parted
 pub mod Searching
+pub mod Reading
+pub mod Order
 pub mod Finite
 pub mod Write
 pub mod Word
@@ -12,3 +20,4 @@ pub mod Cases
 pub mod Believe
 pub mod RootServes
 pub mod Bounded
+pub mod Own

@@ -1,21 +1,27 @@
 -- One more term of a sum, one more turn of a row of steps, one more test: the laws by which a loop meets a walk. Assumes nothing.
 use mathlib.Core.Path.{_≡_, refl, ap, ap₂, sym, _∙_}
-use mathlib.Core.Bool.{Bool, true, false, cond, _&&_, _||_, or-true}
+use mathlib.Core.Bool.{Bool, true, false, cond, _&&_, _||_, or-true, and-false}
 use mathlib.Core.Logic.{⊎-elim}
 use Prim.Native.Nat.{ℕ, zero, suc, _+_, _-_, _<_, _≤_}
 use native.Mathlib.Numerals.{add-one}
 use native.Mathlib.Omega.{arith}
-use native.Mathlib.Nat.{zero-add, suc-add, eq-or-lt-of-le, le-of-suc-le-suc}
+use native.Mathlib.Nat.{zero-add, add-zero, suc-add, add-suc, le-add-right, eq-or-lt-of-le, le-of-suc-le-suc, not-suc-le-zero}
 use native.Mathlib.Decide.{le-ind}
 use lib.Ieee.{Float, Format, add}
 use Rattle.numbers.specs.declared.Failure.{Failure}
 use Rattle.numbers.specs.declared.Went.{Went}
 use Rattle.numbers.specs.declared.Went.the-variants.{Well, Bad}
+use Rattle.numbers.proofs.Tests.{and-first, and-second}
 use Rattle.numbers.specs.Walks.{some, every, count, sumOf, Ended, done, stopped, turn, next, each, well, andThen}
 
 pub sum-more : (k : Format) (f : ℕ → Float) (n : ℕ) (s : Float) → s ≡ sumOf k f n → add k s (f n) ≡ sumOf k f (n + 1)
 unfolding sumOf
 sum-more k f n s e = rw (add-one n, e)
+
+pub sum-ext : (k : Format) (f g : ℕ → Float) (n : ℕ) → ((i : ℕ) → i < n → f i ≡ g i) → sumOf k f n ≡ sumOf k g n
+unfolding sumOf
+sum-ext k f g zero h = refl
+sum-ext k f g (suc n) h = ap₂ (λ (a b : Float). add k a b) (sum-ext k f g n (λ i l. h i (omega arith))) (h n (omega arith))
 
 -- ---- `some`
 module _ (t : ℕ → Bool) where
@@ -46,6 +52,11 @@ unfolding some
 some-ext t u zero h = refl
 some-ext t u (suc n) h = ap₂ (λ (a b : Bool). a || b) (some-ext t u n (λ k l. h k (omega arith))) (h n (omega arith))
 
+pub some-never : (t : ℕ → Bool) (n : ℕ) → ((k : ℕ) → k < n → t k ≡ false) → some t n ≡ false
+unfolding some
+some-never t zero h = refl
+some-never t (suc n) h = rw (some-never t n (λ k l. h k (omega arith)), h n (omega arith))
+
 -- ---- `every`
 pub every-more : (t : ℕ → Bool) (n : ℕ) → every t n ≡ true → t n ≡ true → every t (n + 1) ≡ true
 unfolding every
@@ -55,6 +66,40 @@ pub every-ext : (t u : ℕ → Bool) (n : ℕ) → ((k : ℕ) → k < n → t k 
 unfolding every
 every-ext t u zero h = refl
 every-ext t u (suc n) h = ap₂ (λ (a b : Bool). a && b) (every-ext t u n (λ k l. h k (omega arith))) (h n (omega arith))
+
+pub every-none : (t : ℕ → Bool) → every t 0 ≡ true
+unfolding every
+every-none t = refl
+
+module _ (t : ℕ → Bool) where
+  every-there : (n : ℕ) → t n ≡ false → every t (suc n) ≡ false
+  unfolding every
+  every-there n e = rw e (and-false (every t n))
+
+  every-kept : (n : ℕ) → every t n ≡ false → every t (suc n) ≡ false
+  unfolding every
+  every-kept n e = rw e
+
+  pub every-miss : (i n : ℕ) → i < n → t i ≡ false → every t n ≡ false
+  every-miss i n l e = le-ind (λ (m : ℕ). every t m ≡ false) (every-there i e) (λ m _ h. every-kept m h) n l
+
+pub every-at : (t : ℕ → Bool) (n k : ℕ) → every t n ≡ true → k < n → t k ≡ true
+unfolding every
+every-at t zero k e l = absurd (not-suc-le-zero l)
+every-at t (suc n) k e l = ⊎-elim (λ (i : k ≡ n). rw i (and-second (every t n) (t n) e)) (λ (i : k < n). every-at t n k (and-first (every t n) (t n) e) i) (eq-or-lt-of-le (le-of-suc-le-suc l))
+
+pub every-all : (t : ℕ → Bool) (n : ℕ) → ((k : ℕ) → k < n → t k ≡ true) → every t n ≡ true
+unfolding every
+every-all t zero h = refl
+every-all t (suc n) h = rw (every-all t n (λ k l. h k (omega arith))) (h n (omega arith))
+
+pub every-same : (t u : ℕ → Bool) (n : ℕ) → (((k : ℕ) → k < n → t k ≡ true) → (k : ℕ) → k < n → u k ≡ true) → (((k : ℕ) → k < n → u k ≡ true) → (k : ℕ) → k < n → t k ≡ true) → every t n ≡ every u n
+every-same t u n f g = go (every t n) (every u n) refl refl
+  where
+    go : (a b : Bool) → every t n ≡ a → every u n ≡ b → a ≡ b
+    go true b p q = sym (every-all u n (f (λ k. every-at t n k p))) ∙ q
+    go false true p q = sym p ∙ every-all t n (g (λ k. every-at u n k q))
+    go false false p q = refl
 
 -- ---- `count`
 pub count-none : (t : ℕ → Bool) → 0 ≡ count t 0
@@ -98,6 +143,12 @@ count-at-most t (suc n) = go (t n) (count-at-most t n)
     go : (b : Bool) → count t n ≤ n → cond b (suc (count t n)) (count t n) ≤ suc n
     go true h = omega arith
     go false h = omega arith
+
+-- a test that fails from a number on adds nothing
+pub count-above : (t : ℕ → Bool) (n k : ℕ) → ((p : ℕ) → n ≤ p → t p ≡ false) → count t (n + k) ≡ count t n
+unfolding count
+count-above t n zero h = rw add-zero
+count-above t n (suc k) h = rw (add-suc, h (n + k) (le-add-right n k)) (count-above t n k h)
 
 -- ---- `each`
 module _ {S : Type 0} (f : ℕ → S → Went × S) (s₀ : S) where

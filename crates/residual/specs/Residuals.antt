@@ -4,11 +4,14 @@ use mathlib.Core.List.{List, [], _∷_}
 use lib.Ieee.{Float}
 use lib.Ieee.Scale.{finite}
 use Rattle.numbers.specs.Notation.{_⊠_, if-then}
+use Rattle.numbers.specs.Numbers.{narrowed}
 use Rattle.numbers.specs.declared.Failure.the-variants.{Numerical}
 use Rattle.rotations.specs.Rotation.{product, inverse}
-use Rattle.rotations.specs.ExpLog.{logOf}
+use Rattle.rotations.specs.ExpLog.{logWide}
 use Rattle.rotations.specs.declared.Transform.{Transform}
 use Rattle.rotations.specs.declared.Twist.{Twist}
+use Rattle.rotations.specs.declared.WideTwist.{WideTwist}
+use Rattle.rotations.specs.declared.Vec3.{Vec3}
 use Rattle.rotations.specs.declared.Vec3F32.{Vec3F32}
 use Rattle.rotations.specs.declared.Pose.{Pose}
 use Rattle.pose_conversion.specs.Conversions.{finite3, validTransform, checkedTransform, converting}
@@ -20,11 +23,11 @@ use Rattle.residual.specs.declared.Residual.the-variants.{Six, Failed}
 unfoldable pub errorOf : Transform → Transform → Transform → Transform
 errorOf a b measured = product (inverse measured) (product b (inverse a))
 
-unfoldable pub weightedVec : Float → Vec3F32 → Vec3F32
-weightedVec w v = record { x = w ⊠ v.x; y = w ⊠ v.y; z = w ⊠ v.z }
+-- document 01, "Rotation arithmetic": the six numbers of log are narrowed first, and then weighted in f32
+unfoldable pub weightedVec : Float → Vec3 → Vec3F32
+weightedVec w v = record { x = w ⊠ narrowed v.x; y = w ⊠ narrowed v.y; z = w ⊠ narrowed v.z }
 
--- the six numbers of a log, narrowed already, times the weight in f32
-unfoldable pub weighted : Float → Twist → Twist
+unfoldable pub weighted : Float → WideTwist → Twist
 weighted w d = record { t = weightedVec w d.t; r = weightedVec w d.r }
 
 unfoldable pub finiteTwist : Twist → Bool
@@ -40,7 +43,7 @@ residualOf a b e =
     (converting (validTransform e.measured)
     (λ m. converting (checkedTransform b)
     (λ tb. converting (checkedTransform a)
-    (λ ta. sixIfFinite (weighted e.weight (logOf (errorOf ta tb m))))
+    (λ ta. sixIfFinite (weighted e.weight (logWide (errorOf ta tb m))))
     Failed) Failed) Failed)
     (Failed Numerical)
 

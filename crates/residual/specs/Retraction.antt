@@ -8,34 +8,18 @@ use lib.Ieee.{Float, nan, neg}
 use lib.Ieee.Scale.{finite}
 use Rattle.numbers.specs.Notation.{if-then}
 use Rattle.numbers.specs.Walks.{every}
-use Rattle.numbers.specs.declared.Failure.{Failure}
 use Rattle.numbers.specs.declared.Failure.the-variants.{Numerical}
 use Rattle.rotations.specs.Rotation.{vec, plus, minus, times, turned, matrixOf, matProduct, transpose, product}
-use Rattle.rotations.specs.ExpLog.{over, turnOf, expOf}
+use Rattle.rotations.specs.ExpLog.{over, turnOf, turning, expOf, moving}
 use Rattle.rotations.specs.declared.Vec3.{Vec3}
 use Rattle.rotations.specs.declared.Quat.{Quat}
-use Rattle.rotations.specs.declared.Transform.{Transform}
 use Rattle.rotations.specs.declared.Pose.{Pose}
-use Rattle.rotations.specs.declared.Turn.{Turn}
-use Rattle.rotations.specs.declared.Turn.the-variants as turn
-use Rattle.rotations.specs.declared.Moved.{Moved}
-use Rattle.rotations.specs.declared.Moved.the-variants as moved
 use Rattle.pose_conversion.specs.Conversions.{finitePose, validPose, checkedTransform, checkedPose, converting}
 use Rattle.pose_conversion.specs.declared.Restored.{Restored}
 use Rattle.pose_conversion.specs.declared.Restored.the-variants.{Bad}
 use Rattle.graph.specs.Table.{lengthOf}
 use Rattle.graph.specs.declared.Manifold.{Manifold}
 use Rattle.graph.specs.declared.Manifold.the-variants.{Se3, Gravity}
-
--- ---- how a definition goes on with an exp, which can fail
-
-unfoldable pub moving : {A : Type 0} → Moved → (Transform → A) → (Failure → A) → A
-moving (moved.To e) next failed = next e
-moving moved.TooFar next failed = failed Numerical
-
-unfoldable pub turning : {A : Type 0} → Turn → (Quat → A) → (Failure → A) → A
-turning (turn.By q) next failed = next q
-turning turn.TooFar next failed = failed Numerical
 
 -- the j-th number of a step
 abbrev pub at : List Float → ℕ → Float
@@ -49,7 +33,7 @@ retractSe3 p δ =
     (converting (checkedTransform p)
     (λ a. moving (expOf (vec (at δ 0) (at δ 1) (at δ 2)) (vec (at δ 3) (at δ 4) (at δ 5)))
     (λ e. checkedPose (product a e))
-    Bad) Bad)
+    (Bad Numerical)) Bad)
     (Bad Numerical)
 
 -- ---- DOF 4: the centre −Rᵀt moves by δ's first three; the rotation is R · exp(−δ₄ g), g unit gravity; the translation −(rotation · centre)
@@ -66,7 +50,7 @@ retractGravity g p δ =
     if-then (finitePose p && every (λ j. finite (at δ j)) 4)
     (turning (turnOf (times (neg (at δ 3)) g))
     (λ q. validPose (turnedPose p (centreOf p δ) q))
-    Bad)
+    (Bad Numerical))
     (Bad Numerical)
 
 -- ---- both

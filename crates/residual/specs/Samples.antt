@@ -8,7 +8,7 @@ use Rattle.numbers.specs.Numbers.{rounded, rooted}
 use Rattle.numbers.specs.Walks.{each, mustBeFinite}
 use Rattle.rotations.specs.Rotation.{dot, cross, plus, minus, times, matrixOf, turned, conjugate, quatProduct, wide, finished, product, inverse}
 use Rattle.rotations.specs.FromMatrix.{halvedBy, byRule, quatOfMatrix}
-use Rattle.rotations.specs.ExpLog.{over, series, bent, upright, halved, arcSeries, angleOf, unbend, logOf}
+use Rattle.rotations.specs.ExpLog.{over, series, bent, upright, halved, arcSeries, angleOf, unbend, logWide}
 use Rattle.pose_conversion.specs.Conversions.{vecF32, matF32, transformOf, rebuilt, finitePose, finiteTransform, validTransform, checkedTransform, converting}
 use Rattle.graph.specs.Lent.{poseFrom, poseAt, edgeFrom, slotIn, lentLinks, none}
 use Rattle.residual.specs.Residuals.{errorOf, weightedVec, weighted, finiteTwist, sixIfFinite, residualOf}
@@ -42,7 +42,7 @@ answer c = bits (costOf (lentLinks (0 ∷ 1 ∷ []) (edge (c .measured) (c .weig
 pub samples : map answer (case 1 (num 1) ∷ case 2 (num 1) ∷ case 2 (ratio 1 2) ∷ []) ≡ (0 ∷ []) ∷ (0x3f80_0000 ∷ []) ∷ (0x3e80_0000 ∷ []) ∷ []
 unfolding answer ratio if-then add sub mul div neg lt le ofBits toBits rounded rooted each mustBeFinite
     dot cross plus minus times over matrixOf turned conjugate quatProduct wide finished product inverse halvedBy byRule quatOfMatrix
-    series bent upright halved arcSeries angleOf unbend logOf
+    series bent upright halved arcSeries angleOf unbend logWide
     vecF32 matF32 transformOf rebuilt finitePose finiteTransform validTransform checkedTransform converting poseFrom edgeFrom slotIn
     errorOf weightedVec weighted finiteTwist sixIfFinite residualOf squareStep priced priceAt costEnds costOf
 samples = refl

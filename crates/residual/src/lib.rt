@@ -5,7 +5,7 @@ ghost use lib.ListN.{length};
 ghost use lib.Ieee.Scale.{finite};
 ghost use Rattle.numbers.specs.Walks.{every, each, well, only};
 ghost use Rattle.rotations.specs.Rotation.{vec};
-ghost use Rattle.rotations.specs.ExpLog.{over, logOf};
+ghost use Rattle.rotations.specs.ExpLog.{over, logWide};
 ghost use Rattle.graph.specs.Graph.{isBlock, isActive};
 ghost use Rattle.graph.specs.Lent.{poseAt, edgeAt, lentLinks};
 ghost use Rattle.graph.specs.Table.{lengthOf};
@@ -27,6 +27,7 @@ use rotations::Turn;
 use rotations::Twist;
 use rotations::Vec3;
 use rotations::Vec3F32;
+use rotations::WideTwist;
 
 // Translation, then rotation; or why they can't be had.
 pub enum Residual {
@@ -163,17 +164,18 @@ fn error_of(a: Transform, b: Transform, measured: Transform) -> Transform
     rotations::product_of(rotations::inverse_of(measured), between)
 }
 
-fn weigh_vec(w: f32, v: Vec3F32) -> Vec3F32
+// Narrowed, then weighted in f32.
+fn weigh_vec(w: f32, v: Vec3) -> Vec3F32
     ensures { λ r. ⌜ r ≡ weightedVec w v ⌝ }
 {
     Vec3F32 {
-        x: w * v.x,
-        y: w * v.y,
-        z: w * v.z,
+        x: w * numbers::narrow(v.x),
+        y: w * numbers::narrow(v.y),
+        z: w * numbers::narrow(v.z),
     }
 }
 
-fn weigh(w: f32, d: Twist) -> Twist
+fn weigh(w: f32, d: WideTwist) -> Twist
     ensures { λ r. ⌜ r ≡ weighted w d ⌝ }
 {
     Twist {
@@ -193,9 +195,9 @@ fn six_if_finite(d: Twist) -> Residual
 }
 
 fn residual_between(a: Transform, b: Transform, measured: Transform, weight: f32) -> Residual
-    ensures { λ r. ⌜ r ≡ sixIfFinite (weighted weight (logOf (errorOf a b measured))) ⌝ }
+    ensures { λ r. ⌜ r ≡ sixIfFinite (weighted weight (logWide (errorOf a b measured))) ⌝ }
 {
-    six_if_finite(weigh(weight, rotations::log(error_of(a, b, measured))))
+    six_if_finite(weigh(weight, rotations::log_wide(error_of(a, b, measured))))
 }
 
 // The residual of an edge from a to b. The weight, what was measured, b and a are asked in this order.

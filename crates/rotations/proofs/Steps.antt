@@ -1,16 +1,26 @@
--- How a proof goes by the turn that could be had, and by one that could not. Assumes nothing.
+-- How a proof goes by an exp, of a turn or of a twist, that could be had, and by one that could not. Assumes nothing.
 use mathlib.Core.Path.{_≡_}
 use Rattle.rotations.specs.declared.Quat.{Quat}
+use Rattle.rotations.specs.declared.Transform.{Transform}
 use Rattle.rotations.specs.declared.Turn.{Turn}
 use Rattle.rotations.specs.declared.Turn.the-variants as turn
 use Rattle.rotations.specs.declared.Moved.{Moved}
 use Rattle.rotations.specs.declared.Moved.the-variants as moved
-use Rattle.rotations.specs.ExpLog.{withTurn}
+use Rattle.rotations.specs.ExpLog.{turning, moving}
 
-pub turned-by : {x : Turn} {r : Moved} (next : Quat → Moved) (q : Quat) → x ≡ turn.By q → r ≡ next q → r ≡ withTurn x next
-unfolding withTurn
-turned-by next q p e = rw p e
+module _ {A : Type 0} {r : A} where
+  pub turned-by : {x : Turn} (next : Quat → A) (failed : A) (q : Quat) → x ≡ turn.By q → r ≡ next q → r ≡ turning x next failed
+  unfolding turning
+  turned-by next failed q p e = rw p e
 
-pub turned-too-far : {x : Turn} {r : Moved} (next : Quat → Moved) → x ≡ turn.TooFar → r ≡ moved.TooFar → r ≡ withTurn x next
-unfolding withTurn
-turned-too-far next p e = rw p e
+  pub not-turned : {x : Turn} {failed : A} (next : Quat → A) → x ≡ turn.TooFar → r ≡ failed → r ≡ turning x next failed
+  unfolding turning
+  not-turned next p e = rw p e
+
+  pub moved-to : {x : Moved} (next : Transform → A) (failed : A) (m : Transform) → x ≡ moved.To m → r ≡ next m → r ≡ moving x next failed
+  unfolding moving
+  moved-to next failed m p e = rw p e
+
+  pub not-moved : {x : Moved} {failed : A} (next : Transform → A) → x ≡ moved.TooFar → r ≡ failed → r ≡ moving x next failed
+  unfolding moving
+  not-moved next p e = rw p e

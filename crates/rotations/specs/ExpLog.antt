@@ -9,6 +9,7 @@ use Rattle.rotations.specs.declared.Vec3.{Vec3}
 use Rattle.rotations.specs.declared.Quat.{Quat}
 use Rattle.rotations.specs.declared.Transform.{Transform}
 use Rattle.rotations.specs.declared.Twist.{Twist}
+use Rattle.rotations.specs.declared.WideTwist.{WideTwist}
 use Rattle.rotations.specs.declared.Bend.{Bend}
 use Rattle.rotations.specs.declared.Turn.{Turn}
 use Rattle.rotations.specs.declared.Turn.the-variants as turn
@@ -83,6 +84,15 @@ bend q ω =
 unfoldable pub bent : Vec3 → Float → Float → Vec3 → Vec3
 bent ω k l a = plus (plus a (times k (cross ω a))) (times l (cross ω (cross ω a)))
 
+-- how a definition goes on with an exp, of a turn alone or of a twist: next, or failed where it is past reach
+unfoldable pub turning : {A : Type 0} → Turn → (Quat → A) → A → A
+turning (turn.By q) next failed = next q
+turning turn.TooFar next failed = failed
+
+unfoldable pub moving : {A : Type 0} → Moved → (Transform → A) → A → A
+moving (moved.To e) next failed = next e
+moving moved.TooFar next failed = failed
+
 -- exp of a turn alone stays f64: fails if ω·ω > 4096
 unfoldable pub turnOf : Vec3 → Turn
 turnOf ω = if-then (lt (num 4096) (dot ω ω)) turn.TooFar (turn.By (turnBy ω))
@@ -91,12 +101,8 @@ turnOf ω = if-then (lt (num 4096) (dot ω ω)) turn.TooFar (turn.By (turnBy ω)
 unfoldable pub movedBy : Vec3 → Vec3 → Quat → Transform
 movedBy ρ ω q = let k = bend q ω in finished (record { q = q; t = bent ω k.b k.c ρ })
 
-unfoldable pub withTurn : Turn → (Quat → Moved) → Moved
-withTurn (turn.By q) next = next q
-withTurn turn.TooFar next = moved.TooFar
-
 unfoldable pub expOf : Vec3 → Vec3 → Moved
-expOf ρ ω = withTurn (turnOf ω) (λ q. moved.To (movedBy ρ ω q))
+expOf ρ ω = turning (turnOf ω) (λ q. moved.To (movedBy ρ ω q)) moved.TooFar
 
 -- ---- log
 
@@ -128,14 +134,21 @@ unbend q ω =
     (series θ² (ratio 1 12) (ratio 1 720 ∷ ratio 1 30240 ∷ []))
     ((num 1 ⊖ root64 θ² ⊘ num 2 ⊗ q.w ⊘ root64 (dot (axis q) (axis q))) ⊘ θ²)
 
--- log of a transform: its six numbers narrowed
-unfoldable pub logOf : Transform → Twist
-logOf a =
+-- log of a transform, in f64: the translation and ω
+unfoldable pub logWide : Transform → WideTwist
+logWide a =
     let u = wide a in
     let q = upright u.q in
     let ω = angleOf q in
-    let ρ = bent ω (neg (ratio 1 2)) (unbend q ω) u.t in
+    record { t = bent ω (neg (ratio 1 2)) (unbend q ω) u.t; r = ω }
+
+unfoldable pub narrowedTwist : WideTwist → Twist
+narrowedTwist d =
     record {
-      t = record { x = narrowed ρ.x; y = narrowed ρ.y; z = narrowed ρ.z };
-      r = record { x = narrowed ω.x; y = narrowed ω.y; z = narrowed ω.z };
+      t = record { x = narrowed (d.t .x); y = narrowed (d.t .y); z = narrowed (d.t .z) };
+      r = record { x = narrowed (d.r .x); y = narrowed (d.r .y); z = narrowed (d.r .z) };
     }
+
+-- its six numbers narrowed
+unfoldable pub logOf : Transform → Twist
+logOf a = narrowedTwist (logWide a)

@@ -1,4 +1,4 @@
--- Worked examples, computed by antt. Assumes nothing.
+-- Worked examples, computed by antt. Document 01's own, those marked *, stand in StarredSamples of sparse_pgo. Assumes nothing.
 use mathlib.Core.Path.{_≡_, refl}
 use mathlib.Core.List.{List, [], _∷_, map}
 use Prim.Native.Nat.{ℕ, _+_}
@@ -14,8 +14,8 @@ use Rattle.rotations.specs.declared.Moved.{Moved}
 use Rattle.rotations.specs.declared.Moved.the-variants as moved
 use Rattle.rotations.specs.Rotation.{vec, dot, cross, plus, minus, times, matrixOf, turned, conjugate, quatProduct, wide, finished, product, inverse}
 use Rattle.rotations.specs.FromMatrix.{halvedBy, byRule, quatOfMatrix}
-use Rattle.rotations.specs.ExpLog.{over, series, squared, squarings, sineSeries, cosineSeries, turnBy, smallBend, largeBend, bend, bent, turnOf, movedBy, withTurn, expOf}
-use Rattle.rotations.specs.ExpLog.{upright, halved, arcSeries, angleOf, unbend, logOf}
+use Rattle.rotations.specs.ExpLog.{over, series, squared, squarings, sineSeries, cosineSeries, turnBy, smallBend, largeBend, bend, bent, turning, turnOf, movedBy, expOf}
+use Rattle.rotations.specs.ExpLog.{upright, halved, arcSeries, angleOf, unbend, logWide, narrowedTwist, logOf}
 
 -- ---- numbers by their f32 bits: 0, 1/2, 1, 2, 3, and one with the other sign
 abbrev o : ℕ
@@ -87,17 +87,17 @@ answer (quaternion m) = four-of (quatOfMatrix m) []
 answer (product-of a b) = seven-of (product a b)
 answer (inverse-of a) = seven-of (inverse a)
 
--- log of the identity is zero, and of a translation alone that translation; exp of zero is the identity, and of a translation alone that translation;
+-- log of a translation alone is that translation; exp of zero is the identity, and of a translation alone that translation;
 -- exp of a turn of 64 is had, (sin 32, 0, 0, cos 32), and of 65 fails; the quaternion of the identity matrix; products with the identity; a vector turned; an inverse;
 -- exp of (0, 1, 0) and a turn of 1 about x, which is (sin ½, 0, 0, cos ½) and (0, sin 1, 1 − cos 1); and its log
-pub samples : map answer (log (at noTurn (v32 o o o)) ∷ log (at noTurn (v32 one two three))
+pub samples : map answer (log (at noTurn (v32 one two three))
     ∷ exp (v64 o o o) (v64 o o o) ∷ exp (v64 one two three) (v64 o o o)
     ∷ exp (v64 o o o) (v64 0x4280_0000 o o) ∷ exp (v64 o o o) (v64 0x4282_0000 o o)
     ∷ quaternion (record { x = v32 one o o; y = v32 o one o; z = v32 o o one })
     ∷ product-of (at noTurn (v32 o o o)) (at third (v32 one two three)) ∷ product-of (at third (v32 one two three)) (at noTurn (v32 o o o))
     ∷ product-of (at third (v32 o o o)) (at noTurn (v32 one two three)) ∷ inverse-of (at third (v32 one two three))
     ∷ exp (v64 o one o) (v64 one o o) ∷ log (at (q32 0x3ef5_7744 o o 0x3f60_a940) (v32 o 0x3f57_6aa4 0x3eeb_5d7f)) ∷ [])
-    ≡ (o ∷ o ∷ o ∷ o ∷ o ∷ o ∷ []) ∷ (one ∷ two ∷ three ∷ o ∷ o ∷ o ∷ [])
+    ≡ (one ∷ two ∷ three ∷ o ∷ o ∷ o ∷ [])
     ∷ (o ∷ o ∷ o ∷ one ∷ o ∷ o ∷ o ∷ []) ∷ (o ∷ o ∷ o ∷ one ∷ one ∷ two ∷ three ∷ [])
     ∷ (0x3f0d_2a4d ∷ o ∷ o ∷ 0x3f55_8faa ∷ o ∷ o ∷ o ∷ []) ∷ []
     ∷ (o ∷ o ∷ o ∷ one ∷ [])
@@ -105,5 +105,5 @@ pub samples : map answer (log (at noTurn (v32 o o o)) ∷ log (at noTurn (v32 on
     ∷ (half ∷ half ∷ half ∷ half ∷ three ∷ one ∷ two ∷ []) ∷ (less half ∷ less half ∷ less half ∷ half ∷ less two ∷ less three ∷ less one ∷ [])
     ∷ (0x3ef5_7744 ∷ o ∷ o ∷ 0x3f60_a940 ∷ o ∷ 0x3f57_6aa4 ∷ 0x3eeb_5d7f ∷ []) ∷ (o ∷ one ∷ 0xb0ef_66e4 ∷ one ∷ o ∷ o ∷ []) ∷ []
 unfolding answer ratio if-then add sub mul div neg lt le ofBits toBits rounded rooted dot cross plus minus times over matrixOf turned conjugate quatProduct wide finished product inverse
-    halvedBy byRule quatOfMatrix series squared squarings sineSeries cosineSeries turnBy smallBend largeBend bend bent turnOf movedBy withTurn expOf upright halved arcSeries angleOf unbend logOf
+    halvedBy byRule quatOfMatrix series squared squarings sineSeries cosineSeries turnBy smallBend largeBend bend bent turning turnOf movedBy expOf upright halved arcSeries angleOf unbend logWide narrowedTwist logOf
 samples = refl

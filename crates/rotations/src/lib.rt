@@ -6,7 +6,7 @@ ghost use Rattle.rotations.specs.Rotation.{wide, finished, product, inve
 ghost use Rattle.rotations.specs.FromMatrix.{halvedBy, quatOfMatrix};
 ghost use Rattle.rotations.specs.ExpLog.{over, axis, squared, squarings, sineSeries, cosineSeries, turnBy, turnOf};
 ghost use Rattle.rotations.specs.ExpLog.{smallBend, largeBend, bend, bent, movedBy, expOf};
-ghost use Rattle.rotations.specs.ExpLog.{upright, halved, arcSeries, angleOf, unbend, logOf};
+ghost use Rattle.rotations.specs.ExpLog.{upright, halved, arcSeries, angleOf, unbend, logWide, narrowedTwist, logOf};
 
 pub struct Vec3 {
     pub x: f64,
@@ -70,6 +70,12 @@ pub struct Rigid {
 pub struct Twist {
     pub t: Vec3F32,
     pub r: Vec3F32,
+}
+
+// The same in f64, before it is narrowed.
+pub struct WideTwist {
+    pub t: Vec3,
+    pub r: Vec3,
 }
 
 // B and C of document 01.
@@ -581,23 +587,38 @@ fn unbend_of(q: Quat, w: Vec3) -> f64
     (1.0 - numbers::sqrt64(s) / 2.0 * q.w / numbers::sqrt64(dot_of(v, v))) / s
 }
 
-pub fn log(a: Transform) -> Twist
-    ensures { λ r. ⌜ r ≡ logOf a ⌝ }
+// log before its six numbers are narrowed.
+pub fn log_wide(a: Transform) -> WideTwist
+    ensures { λ r. ⌜ r ≡ logWide a ⌝ }
 {
     let u = widened(a);
     let q = upright_of(u.q);
     let w = angle_of(q);
-    let p = bent_by(w, -0.5, unbend_of(q, w), u.t);
+    WideTwist {
+        t: bent_by(w, -0.5, unbend_of(q, w), u.t),
+        r: w,
+    }
+}
+
+pub fn narrow_twist(d: WideTwist) -> Twist
+    ensures { λ r. ⌜ r ≡ narrowedTwist d ⌝ }
+{
     Twist {
         t: Vec3F32 {
-            x: numbers::narrow(p.x),
-            y: numbers::narrow(p.y),
-            z: numbers::narrow(p.z),
+            x: numbers::narrow(d.t.x),
+            y: numbers::narrow(d.t.y),
+            z: numbers::narrow(d.t.z),
         },
         r: Vec3F32 {
-            x: numbers::narrow(w.x),
-            y: numbers::narrow(w.y),
-            z: numbers::narrow(w.z),
+            x: numbers::narrow(d.r.x),
+            y: numbers::narrow(d.r.y),
+            z: numbers::narrow(d.r.z),
         },
     }
+}
+
+pub fn log(a: Transform) -> Twist
+    ensures { λ r. ⌜ r ≡ logOf a ⌝ }
+{
+    narrow_twist(log_wide(a))
 }

@@ -116,68 +116,20 @@ fn far_pose(
     w32: &mut [f32],
     w64: &mut [f64],
 ) -> Answer {
-    let poses = [
-        1.0f64,
-        0.0,
-        0.0,
-        0.0,
-        1.0,
-        0.0,
-        0.0,
-        0.0,
-        1.0,
-        0.0,
-        0.0,
-        0.0,
-        1.0,
-        0.0,
-        0.0,
-        0.0,
-        1.0,
-        0.0,
-        0.0,
-        0.0,
-        1.0,
-        1.0,
-        0.0,
-        0.0,
-        1.0,
-        0.0,
-        0.0,
-        0.0,
-        1.0,
-        0.0,
-        0.0,
-        0.0,
-        1.0,
-        1e300,
-        0.0,
-        0.0,
-    ];
+    let mut poses = [0.0f64; 36];
+    graphs::walk(
+        &mut poses,
+        graphs::step(1.0, 0.0, graphs::vec(1.0, 0.0, 0.0)),
+    );
+    poses[33] = 1e300;
     let mut out = [0.0f64; 36];
     sparse_pgo::optimize(&poses, ends, edges, fixed, usual(), w32, w64, &mut out)
 }
 
 fn far_poses(w32: &mut [f32], w64: &mut [f64]) {
     let one = [0.0f32, 0.0, 0.0, 1.0, 2.0, 0.0, 0.0, 1.0];
-    let two = [
-        0.0f32,
-        0.0,
-        0.0,
-        1.0,
-        2.0,
-        0.0,
-        0.0,
-        1.0,
-        0.0,
-        0.0,
-        0.0,
-        1.0,
-        2.0,
-        0.0,
-        0.0,
-        1.0,
-    ];
+    let mut two = [0.0f32; 16];
+    graphs::measure(&mut two, one);
     let a = far_pose(&[0, 1, 1, 2], &two, &[0], w32, w64);
     say::line(b"a pose at 1e300, named by active edge 1", a);
     let a = far_pose(&[0, 1], &one, &[0], w32, w64);

@@ -1,5 +1,3 @@
-pub mod Tests
-pub mod Own
 pub mod Zeros
 pub mod Index
 pub mod Sums
@@ -8,6 +6,7 @@ pub mod Places
 pub mod Firsts
 pub mod Rows
 pub mod Steps
+pub mod StepFits
 pub mod Followed
 pub mod Close
 pub mod Again

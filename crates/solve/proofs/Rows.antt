@@ -19,7 +19,7 @@ use Rattle.solve.specs.Rule.{less, serves}
 use Rattle.solve.specs.Work.{need, matrixOf, gradientOf}
 use Rattle.solve.specs.Profile.{cellOf, rootOf, firstOf, Within, minusZero, start, entryFrom, nextEntry, rowFrom, pivotFrom, onward, wholeRow, rowsFrom}
 use Rattle.solve.proofs.Index.{before, one-line}
-use Rattle.solve.proofs.Tests.{true-or-false}
+use Rattle.numbers.proofs.Tests.{true-or-false}
 use Rattle.numbers.proofs.RootServes.{zero-is, root-serves}
 use Rattle.solve.proofs.Zeros.{Fits, literal-zero, zero-less, plus-times, less-square, plus-by, stuck-square}
 use Rattle.solve.proofs.Sums.{less-ext, less-idle, less-skip, less-stuck, less-fits, less-start, start-low}

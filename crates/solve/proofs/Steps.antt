@@ -22,7 +22,8 @@ use Rattle.solve.specs.Rule as R
 use Rattle.solve.specs.Rule.{less}
 use Rattle.solve.specs.Work.{need}
 use Rattle.solve.specs.Profile.{cellOf, rootOf, stepOf, firstOf, start, aheadFrom, nextAhead, forwardFrom, leftOut, nextBelow, lessBelow, backFrom, backwardFrom}
-use Rattle.solve.proofs.Tests.{true-or-false, and-first, and-second, every-miss}
+use Rattle.numbers.proofs.Tests.{true-or-false, and-first, and-second}
+use Rattle.numbers.proofs.Walking.{every-miss}
 use Rattle.solve.proofs.Index.{before, same-or-not}
 use Rattle.solve.proofs.Zeros.{Fits, Zero, zero-less, plus-times, unequal-zero, stuck-left, stuck-by}
 use Rattle.solve.proofs.Sums.{less-ext, less-from, less-start, start-low}
@@ -50,7 +51,7 @@ back-keeps w n F (suc i) k h =
     back-keeps (set w (n * n + n + n + i) (backFrom w n F i)) n F i k (omega arith)
     ∙ getD-set-other w (n * n + n + n + i) (n * n + n + n + k) (backFrom w n F i) nan (λ e. omega arith)
 
-rule-keeps : (A : ℕ → ℕ → Float) (n : ℕ) (y : ℕ → Float) (m k : ℕ) → m ≤ k → R.backward A n y m k ≡ y k
+pub rule-keeps : (A : ℕ → ℕ → Float) (n : ℕ) (y : ℕ → Float) (m k : ℕ) → m ≤ k → R.backward A n y m k ≡ y k
 unfolding R.backward
 rule-keeps A n y zero k h = refl
 rule-keeps A n y (suc i) k h = rule-keeps A n (R.put y i _) i k (omega arith) ∙ O.put-other y i _ k (λ e. omega arith)

@@ -12,7 +12,7 @@ use Rattle.numbers.specs.Notation.{_⊟_, _⊠_, num}
 use Rattle.solve.specs.Rule.{less}
 use Rattle.solve.specs.Profile.{minusZero, start}
 use Rattle.solve.proofs.Index.{le-or-lt}
-use Rattle.solve.proofs.Tests.{true-or-false}
+use Rattle.numbers.proofs.Tests.{true-or-false}
 use Rattle.solve.proofs.Zeros.{Fits, zero-less, plus-times, times-plus, stuck-left, stuck-right}
 
 pub less-ext : (v : Float) (a b c d : ℕ → Float) (m : ℕ) → ((k : ℕ) → k < m → a k ≡ c k) → ((k : ℕ) → k < m → b k ≡ d k) → less v a b m ≡ less v c d m

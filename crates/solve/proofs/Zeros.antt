@@ -18,8 +18,8 @@ use Rattle.numbers.specs.Notation.{_⊟_, _⊠_, _⧄_, num}
 use Rattle.numbers.specs.Numbers.{rounded}
 use Rattle.solve.specs.Rule.{serves}
 use Rattle.solve.specs.Profile.{minusZero}
-use Rattle.solve.proofs.Tests.{and-first}
-use Rattle.solve.proofs.Own.{rounded-own}
+use Rattle.numbers.proofs.Tests.{and-first}
+use Rattle.numbers.proofs.Own.{rounded-own}
 use Rattle.numbers.proofs.RootServes.{zero-is, above-zero}
 
 abbrev pub Fits : Float → Type 0

@@ -20,7 +20,6 @@ use Rattle.solve.specs.Rule.{solvable, nothing}
 use Rattle.solve.specs.Work.{need, matrixOf, gradientOf, workAfter, stepIn, answerOf, leaves}
 use Rattle.solve.proofs.Places.{length-after}
 use Rattle.solve.proofs.Again.{same-answer, same-leaves, answer-is, read-step}
-use Rattle.assembly.proofs.Laws.{partFrom}
 use Rattle.decisions.specs.Run.{heard}
 use Rattle.decisions.specs.declared.Trial.{Trial}
 use Rattle.decisions.specs.declared.Trial.the-variants as trial
@@ -29,7 +28,7 @@ use Rattle.sparse_pgo.specs.declared.Job.{Job}
 use Rattle.sparse_pgo.specs.Parts.{numerics, trialAs}
 use Rattle.sparse_pgo.specs.Numerics.{partsOn, normOf, stepTolerance}
 use Rattle.sparse_pgo.specs.Turns.{partsIn, heldIn, triedIn, stepPart, Lent, Beside, Holds, Evaluated, Attempted}
-use Rattle.sparse_pgo.proofs.Parted.{part-reads, length-part}
+use Rattle.numbers.proofs.Parted.{partFrom, part-reads, length-part}
 use Rattle.sparse_pgo.proofs.Steps.{norm-same, moves-same, moved-same}
 
 -- a test for another answer
@@ -132,7 +131,7 @@ module _ {job : Job} {l : Links Edge} (price damping : Float) {w32 w32' before :
       norm-is =
           let o : length w32' - (n * n + n + n) ≡ n = omega (arith, sized) in
           e
-          ∙ ap₂ normOf (part-reads (n * n + n + n) w32') (length-part (n * n + n + n) w32' ∙ o)
+          ∙ ap₂ normOf (part-reads (n * n + n + n) w32' nan) (length-part (n * n + n + n) w32' ∙ o)
           ∙ norm-same (stepPart job w32') δ n reads
 
       small-is : lt norm tolerance ≡ lt (normOf δ n) stepTolerance

@@ -10,13 +10,13 @@ use lib.Ieee.{Float, nan}
 use Rattle.numbers.specs.Walks.{table}
 use Rattle.numbers.proofs.Tables.{getD-table}
 use Rattle.rotations.specs.declared.Pose.{Pose}
-use Rattle.graph.specs.Lent.{poseFrom, poseAt}
+use Rattle.graph.specs.Lent.{poseFrom, poseAt, numbersOf}
 use Rattle.graph.specs.declared.Slot.{Slot}
 use Rattle.graph.specs.declared.Slot.the-variants.{Block, Fixed}
 use Rattle.sparse_pgo.specs.declared.Job.{Job}
-use Rattle.sparse_pgo.specs.Numerics.{numbersOf}
 use Rattle.sparse_pgo.specs.Turns.{heldIn, triedIn, Beside, Stored, CommittedOne}
-use Rattle.sparse_pgo.proofs.Halves.{second-kept, held-long, tried-long, of-pose}
+use Rattle.numbers.proofs.Parted.{second-kept}
+use Rattle.sparse_pgo.proofs.Halves.{held-long, tried-long, of-pose}
 
 -- ---- one pose
 

@@ -1,4 +1,4 @@
--- Demands 1 and 3 of the public promise, for every input. Assumes nothing.
+-- Demands 1 and 3 of the public promise, for every input; and that a promise that is an equation leaves one answer. Assumes nothing.
 use mathlib.Core.Path.{_≡_, refl, sym, ap, _∙_}
 use mathlib.Core.Bool.{true}
 use mathlib.Core.List.{List}
@@ -15,6 +15,7 @@ use Rattle.graph.specs.declared.Counts.{Counts}
 use Rattle.graph.specs.declared.Checked.the-variants as checked
 use Rattle.graph.specs.declared.Settings.{Settings}
 use Rattle.graph.proofs.Passed.{PassedSettings, fit}
+use Rattle.residual.specs.Retraction.{unitOf}
 use Rattle.solve.specs.Work.{need}
 use Rattle.decisions.specs.Demand.{Held}
 use Rattle.decisions.specs.Machine.{Play, played, stateOf}
@@ -26,8 +27,14 @@ use Rattle.sparse_pgo.specs.declared.Joined.{Joined}
 use Rattle.sparse_pgo.specs.declared.Answer.{Answer}
 use Rattle.sparse_pgo.specs.declared.Answer.the-variants as answer
 use Rattle.sparse_pgo.specs.Parts.{Parts, numerics, joinedOf, answerOf, wholeFrom, whole}
+use Rattle.sparse_pgo.specs.Numerics.{partsOf}
 use Rattle.sparse_pgo.specs.Optimize.{After, afterChecks, given, ran, zeroed, optimized}
 use Rattle.sparse_pgo.proofs.Looping.{not-above}
+
+-- ---- any two answers that meet a promise which is an equation agree
+
+pub agree : {A : Type 0} {promised : A} (x y : A) → x ≡ promised → y ≡ promised → x ≡ y
+agree x y p q = p ∙ sym q
 
 -- ---- demand 3, of a run that was joined: what it says of its counts and costs, and of the poses that it came to
 
@@ -51,6 +58,10 @@ module _ {X S D : Type 0} (p : Parts X S D) (set : Settings) (ok : PassedSetting
           let e : joinedOf c s w ≡ j = cc in
           rw (← e) (record { trials = refl; limited = h .trials; raises = h .raises; lower = h .lower; same-cost = h .kept; same-poses = same })
 
+  whole-held : (c : Float) → Held (set .limit) c (stateOf (played (numerics p) (set .limit) (set .«cost_tolerance») c (set .damping) x .next))
+  whole-held c =
+      played-held (numerics p) (set .limit) (set .«cost_tolerance») c (set .damping) x (ok .most-limit) f (ok .damping-above) (not-above (set .damping) (ok .damping-above) (ok .damping-most))
+
   kept-whole : (j : Joined) → whole p set x .answer ≡ answer.Joined j → Kept (set .limit) x j (whole p set x .held)
   unfolding whole
   kept-whole j = go (p .cost x)
@@ -59,11 +70,18 @@ module _ {X S D : Type 0} (p : Parts X S D) (set : Settings) (ok : PassedSetting
       go (stopped k why c) q = let z : _≡_ {A = ℕ} 0 1 = cc in absurd (omega arith)
       go (done c) q =
           kept-next c (played (numerics p) (set .limit) (set .«cost_tolerance») c (set .damping) x) j
-          (played-held (numerics p) (set .limit) (set .«cost_tolerance») c (set .damping) x (ok .most-limit) f (ok .damping-above) (not-above (set .damping) (ok .damping-above) (ok .damping-most)))
+          (whole-held c)
           (played-same (numerics p) (set .limit) (set .«cost_tolerance») c (set .damping) x)
           q
 
 -- ---- of the public promise
+
+-- the parts of an input's run, and what the machine comes to with them from a first cost
+abbrev pub runParts : Input → Parts (List Float) (List Float) (ℕ → Float)
+runParts i = partsOf (unitOf (i .manifold)) (i .settings) (graphOf i)
+
+abbrev pub lastOf : Input → Float → Next
+lastOf i first = played (numerics (runParts i)) (i .settings .limit) (i .settings .«cost_tolerance») first (i .settings .damping) (i .poses) .next
 
 module _ (i : Input) (work32 work64 out : List Float) where
   -- demand 1, rows 1 to 19: that refusal, and every lent number as it was
@@ -95,3 +113,12 @@ module _ (i : Input) (work32 work64 out : List Float) where
         → Kept (i .settings .limit) (i .poses) j (optimized i work32 work64 out .out)
     unfolding ran
     demand-three f j h = rw (come-out h) (kept-whole _ (i .settings) (fit i c e .0 .settings) f (i .poses) j (answered h))
+
+    -- and of the solves tried, which an answer does not count: the answer is taken from what the machine comes to, and its A is that state's `accepted` (joinedOf)
+    pub demand-three-solves : T (fits binary32 (i .settings .damping)) → (first : Float) → runParts i .cost (i .poses) ≡ done first
+        → (optimized i work32 work64 out .answer ≡ answerOf first (lastOf i first)) × (stateOf (lastOf i first) .solves ≤ 2 * stateOf (lastOf i first) .accepted + 55)
+    unfolding ran whole
+    demand-three-solves f first h = (
+      ap (λ (y : After). y .answer) began ∙ ap (λ (x : Ended Float). wholeFrom (runParts i) (i .settings) (i .poses) x .answer) h,
+      whole-held (runParts i) (i .settings) (fit i c e .0 .settings) f (i .poses) first .tried,
+    )

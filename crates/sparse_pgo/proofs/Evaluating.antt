@@ -15,7 +15,6 @@ use Rattle.graph.specs.declared.Edge.{Edge}
 use Rattle.residual.specs.Costs.{costEnds, costFrom, costOf}
 use Rattle.residual.specs.declared.Cost.{Cost}
 use Rattle.residual.specs.declared.Cost.the-variants as cost
-use Rattle.assembly.proofs.Laws.{partFrom}
 use Rattle.decisions.specs.Run.{judged, heard}
 use Rattle.decisions.specs.declared.Numerical.the-variants as numerical
 use Rattle.decisions.specs.declared.Reason.{Reason}
@@ -25,7 +24,7 @@ use Rattle.decisions.specs.declared.Trial.the-variants as trial
 use Rattle.sparse_pgo.specs.declared.Job.{Job}
 use Rattle.sparse_pgo.specs.Numerics.{partsOn, moves, movedNumbers}
 use Rattle.sparse_pgo.specs.Turns.{heldIn, triedIn, stepPart, Retracted, Evaluated}
-use Rattle.sparse_pgo.proofs.Parted.{part-from, part-reads}
+use Rattle.numbers.proofs.Parted.{partFrom, part-from, part-reads}
 
 -- ---- a cost is what its walk ends in
 
@@ -59,7 +58,7 @@ no-cost r c q = let z : _≡_ {A = ℕ} 0 1 = cc in absurd (omega arith)
 module _ {job : Job} (l : Links Edge) (price : Float) (w32 : List Float) {before after : List Float} {r : Bool}
     (h : Retracted job (l .slot) (λ i. getD (partFrom (job .n * job .n + job .n + job .n) w32) i nan) before r after) where
   moved : Retracted job (l .slot) (stepPart job w32) before r after
-  moved = subst (λ (δ : ℕ → Float). Retracted job (l .slot) δ before r after) (part-reads (job .n * job .n + job .n + job .n) w32) h
+  moved = subst (λ (δ : ℕ → Float). Retracted job (l .slot) δ before r after) (part-reads (job .n * job .n + job .n + job .n) w32 nan) h
 
   -- a retraction failed
   pub trial-unmoved : r ≡ false → Evaluated job l price (stepPart job w32) before (trial.Rejected (reason.Numerical numerical.Retraction)) after

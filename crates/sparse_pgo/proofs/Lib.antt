@@ -1,10 +1,7 @@
-pub mod General
-pub mod Laying
 pub mod Steps
 pub mod Halves
 pub mod Trials
 pub mod Commits
-pub mod Parted
 pub mod Evaluating
 pub mod Attempts
 pub mod Assembling
@@ -15,3 +12,5 @@ pub mod Running
 pub mod Slots
 pub mod Border
 pub mod Demands
+pub mod AlwaysFinite
+pub mod WholeAssembly

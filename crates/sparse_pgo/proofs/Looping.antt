@@ -18,7 +18,7 @@ use Rattle.decisions.specs.declared.State.{State}
 use Rattle.decisions.specs.declared.End.{End}
 use Rattle.decisions.specs.declared.Next.{Next}
 use Rattle.decisions.specs.declared.Next.the-variants as next
-use Rattle.decisions.proofs.Order.{unsigned, le-of-not-lt}
+use Rattle.numbers.proofs.Order.{unsigned, le-of-not-lt}
 use Rattle.decisions.proofs.Going.{Going, turnsLeft, going-begin, going-on, going-less, going-done}
 use Rattle.sparse_pgo.specs.declared.Job.{Job}
 use Rattle.sparse_pgo.specs.Parts.{numerics}

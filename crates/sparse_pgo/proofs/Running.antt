@@ -21,7 +21,6 @@ use Rattle.graph.specs.declared.Slot.{Slot}
 use Rattle.residual.specs.Costs.{costEnds, costOf}
 use Rattle.residual.specs.declared.Cost.{Cost}
 use Rattle.residual.specs.declared.Cost.the-variants as cost
-use Rattle.assembly.proofs.Laws.{withPart}
 use Rattle.decisions.specs.Run.{iterations}
 use Rattle.decisions.specs.Machine.{stateOf, played}
 use Rattle.decisions.specs.Demand.{Held}
@@ -40,7 +39,7 @@ use Rattle.sparse_pgo.specs.Parts.{Whole, numerics, hasConverged, answer
 use Rattle.sparse_pgo.specs.Numerics.{partsOn}
 use Rattle.sparse_pgo.specs.Optimize.{given}
 use Rattle.sparse_pgo.specs.Turns.{partsIn, heldIn, triedIn, Lent, Beside, Startable, Iterated, Started, Begun}
-use Rattle.sparse_pgo.proofs.Parted.{with-part}
+use Rattle.numbers.proofs.Parted.{withPart, with-part}
 use Rattle.sparse_pgo.proofs.Evaluating.{cost-had, cost-bad}
 use Rattle.sparse_pgo.proofs.Settling.{beside-same}
 use Rattle.sparse_pgo.proofs.Looping.{not-above}

@@ -21,7 +21,7 @@ use Rattle.graph.specs.declared.Slot.{Slot}
 use Rattle.graph.specs.declared.Slot.the-variants.{Block, Fixed}
 use Rattle.sparse_pgo.specs.Numerics.{normOf, partOf, movesBy, numberBy, moves, movedNumbers}
 use Rattle.sparse_pgo.specs.Turns.{Beside}
-use Rattle.sparse_pgo.proofs.General.{sum-ext}
+use Rattle.numbers.proofs.Walking.{sum-ext}
 
 pub dof-most : (m : Manifold) → dofOf m ≤ 6
 dof-most Se3 = omega arith

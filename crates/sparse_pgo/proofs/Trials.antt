@@ -18,15 +18,16 @@ use Rattle.rotations.specs.declared.Pose.{Pose}
 use Rattle.pose_conversion.specs.Conversions.{restoring}
 use Rattle.pose_conversion.specs.declared.Restored.{Restored}
 use Rattle.pose_conversion.specs.declared.Restored.the-variants.{Into, Bad}
-use Rattle.graph.specs.Lent.{dofOf, poseAt}
+use Rattle.graph.specs.Lent.{dofOf, poseAt, numbersOf}
 use Rattle.graph.specs.declared.Slot.{Slot}
 use Rattle.graph.specs.declared.Slot.the-variants.{Block, Fixed}
 use Rattle.residual.specs.Retraction.{retractOf}
 use Rattle.sparse_pgo.specs.declared.Job.{Job}
-use Rattle.sparse_pgo.specs.Numerics.{partOf, numbersOf, movesBy, numberBy, moves, movedNumbers}
+use Rattle.sparse_pgo.specs.Numerics.{partOf, movesBy, numberBy, moves, movedNumbers}
 use Rattle.sparse_pgo.specs.Turns.{heldIn, triedIn, Beside, Stored, RetractedOne, Retracted}
-use Rattle.sparse_pgo.proofs.General.{every-miss}
-use Rattle.sparse_pgo.proofs.Halves.{first-kept, held-long, tried-long, of-pose}
+use Rattle.numbers.proofs.Walking.{every-miss}
+use Rattle.numbers.proofs.Parted.{first-kept}
+use Rattle.sparse_pgo.proofs.Halves.{held-long, tried-long, of-pose}
 
 -- ---- one pose
 

@@ -2,3 +2,4 @@ pub mod Parts
 pub mod Numerics
 pub mod Optimize
 pub mod Turns
+pub mod StarredSamples

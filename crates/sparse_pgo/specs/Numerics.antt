@@ -2,7 +2,7 @@
 -- system as the work of a solve. Definitions only.
 use Prim.Native.Nat.{ℕ, _+_, _*_, _/_, _%_}
 use mathlib.Core.Bool.{Bool, true, false}
-use mathlib.Core.List.{List, [], _∷_}
+use mathlib.Core.List.{List, []}
 use lib.Dec.{ltb}
 use lib.ListN.{length, getD}
 use lib.Ieee.{Float, nan, binary64, lt}
@@ -12,7 +12,7 @@ use Rattle.numbers.specs.Walks.{every, table, sumOf}
 use Rattle.rotations.specs.declared.Pose.{Pose}
 use Rattle.pose_conversion.specs.Conversions.{restoring}
 use Rattle.graph.specs.Graph.{Graph, Links, linksOf, freeCount}
-use Rattle.graph.specs.Lent.{dofOf, poseAt}
+use Rattle.graph.specs.Lent.{dofOf, poseAt, numbersOf}
 use Rattle.graph.specs.declared.Edge.{Edge}
 use Rattle.graph.specs.declared.Manifold.{Manifold}
 use Rattle.graph.specs.declared.Settings.{Settings}
@@ -38,14 +38,6 @@ stepTolerance = ratio32 1 1000000
 -- the DOF numbers of block b, then +0 up to six
 unfoldable pub partOf : ℕ → (ℕ → Float) → ℕ → List Float
 partOf dof δ b = table (λ j. if-then (ltb j dof) (δ (b * dof + j)) (num 0)) 6
-
--- the twelve numbers of a pose, in order
-abbrev pub numbersOf : Pose → List Float
-numbersOf p =
-    p.rotation .x .x ∷ p.rotation .x .y ∷ p.rotation .x .z
-    ∷ p.rotation .y .x ∷ p.rotation .y .y ∷ p.rotation .y .z
-    ∷ p.rotation .z .x ∷ p.rotation .z .y ∷ p.rotation .z .z
-    ∷ p.translation .x ∷ p.translation .y ∷ p.translation .z ∷ []
 
 -- whether pose p of x, with its slot, can be moved; and number j of it then
 abbrev pub movesBy : Manifold → List Float → (ℕ → Float) → ℕ → Slot → Bool

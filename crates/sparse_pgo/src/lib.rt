@@ -6,12 +6,12 @@ ghost use Prim.Native.Nat.{ℕ, _+_, _*_, _≤_, _<_};
 ghost use lib.ListN.{length, getD, take, drop, replicate};
 ghost use lib.Ieee.{nan, lt};
 ghost use Rattle.numbers.specs.Notation.{num, ratio32};
-ghost use Rattle.graph.specs.Lent.{lent};
+ghost use Rattle.graph.specs.Lent.{lent, numbersOf};
 ghost use Rattle.decisions.specs.Run.{iterations};
 ghost use Rattle.decisions.specs.Machine.{stateOf};
 ghost use Rattle.solve.specs.Work.{need};
 ghost use Rattle.sparse_pgo.specs.Parts.{hasConverged, answerOf};
-ghost use Rattle.sparse_pgo.specs.Numerics.{normOf, partOf, numbersOf};
+ghost use Rattle.sparse_pgo.specs.Numerics.{normOf, partOf};
 ghost use Rattle.sparse_pgo.specs.Optimize.{optimized};
 ghost use Rattle.sparse_pgo.specs.Turns.{linksIn, slotsIn, heldIn, triedIn, stepPart, Sized, Lent, Beside, Stored, RetractedOne, Retracted, CommittedOne};
 ghost use Rattle.sparse_pgo.specs.Turns.{Evaluated, Attempted, Holds, Made, Settled, SolvedAgain, Turned, Startable, Iterated, Started, Begun};
@@ -130,32 +130,11 @@ fn delta_of(step: &[f32], dof: usize, b: usize) -> [f32; 6]
     delta
 }
 
-fn numbers_of(p: Pose) -> [f64; 12]
-    ensures { λ r. ⌜ r ≡ numbersOf p ⌝ }
-{
-    let m = p.rotation;
-    let t = p.translation;
-    [
-        m.x.x,
-        m.x.y,
-        m.x.z,
-        m.y.x,
-        m.y.y,
-        m.y.z,
-        m.z.x,
-        m.z.y,
-        m.z.z,
-        t.x,
-        t.y,
-        t.z,
-    ]
-}
-
 fn store_pose(l: &mut [f64], at: usize, p: Pose)
     requires { ⌜ at + 12 ≤ length (now l) ⌝ }
     ensures { λ _. ⌜ Stored (now (l .entry)) (now (l .exit)) at (numbersOf p) ⌝ }
 {
-    let ns = numbers_of(p);
+    let ns = graph::numbers_of(p);
     let mut j = 0usize;
     while j < 12 {
         l[at + j] = ns[j];
@@ -426,7 +405,8 @@ fn iterate(
     }
 }
 
-fn has_converged(w: Why) -> bool
+// Whether a run that stopped so has converged.
+pub fn has_converged(w: Why) -> bool
     ensures { λ r. ⌜ r ≡ hasConverged w ⌝ }
 {
     match w {

@@ -4,13 +4,13 @@ use native.Mathlib.Omega.{arith}
 use lib.ListN.{length}
 use Rattle.numbers.specs.Walks.{each, done}
 use Rattle.numbers.proofs.Walking.{each-more, each-all, each-early}
-use Rattle.assembly.specs.Assembly.{rowOf, blockOf}
+use Rattle.assembly.specs.Assembly.{lowerTriangle, rowOf, blockOf}
 use borrow.Author.Needs.{needs}
 use Rattle.assembly.proofs.accumulate_hessian.Statement.{statement}
 use Rattle.assembly.proofs.accumulate_hessian.Tie as tie
 
 abbrev Inv-loop : tie.InvT-loop
-Inv-loop w₀ n dof rb cb jr jc r₀ w r = (r ≤ dof) × (length w ≡ length w₀) × (each (rowOf n dof rb cb jr jc) r w₀ ≡ done w)
+Inv-loop w₀ n dof rb cb jr jc r₀ w r = (r ≤ dof) × (length w ≡ length w₀) × (each (rowOf lowerTriangle n dof rb cb jr jc) r w₀ ≡ done w)
 
 abbrev μ-loop : tie.MeasureT-loop
 μ-loop w₀ n dof rb cb jr jc r₀ w r = dof - r

@@ -4,13 +4,13 @@ use native.Mathlib.Omega.{arith}
 use lib.ListN.{length}
 use Rattle.numbers.specs.Walks.{each, done}
 use Rattle.numbers.proofs.Walking.{each-more, each-all, each-early}
-use Rattle.assembly.specs.Assembly.{entryOf, rowOf}
+use Rattle.assembly.specs.Assembly.{lowerTriangle, entryOf, rowOf}
 use borrow.Author.Needs.{needs}
 use Rattle.assembly.proofs.accumulate_row.Statement.{statement}
 use Rattle.assembly.proofs.accumulate_row.Tie as tie
 
 abbrev Inv-loop : tie.InvT-loop
-Inv-loop w₀ n dof rb cb jr jc r c₀ w c = (c ≤ dof) × (length w ≡ length w₀) × (each (λ c. entryOf n (rb * dof + r) (cb * dof + c) jr r jc c) c w₀ ≡ done w)
+Inv-loop w₀ n dof rb cb jr jc r c₀ w c = (c ≤ dof) × (length w ≡ length w₀) × (each (λ c. entryOf lowerTriangle n (rb * dof + r) (cb * dof + c) jr r jc c) c w₀ ≡ done w)
 
 abbrev μ-loop : tie.MeasureT-loop
 μ-loop w₀ n dof rb cb jr jc r c₀ w c = dof - c

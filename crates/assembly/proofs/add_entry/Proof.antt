@@ -1,7 +1,8 @@
+use Prim.Native.Nat.{_+_, _*_, _<_}
 use native.Mathlib.Omega.{arith}
+use lib.Arith.{digits-lt}
 use borrow.Author.Tests.{lt-leb, le-leb}
 use Rattle.assembly.specs.Assembly.{entryOf}
-use Rattle.assembly.proofs.Laws.{in-square}
 use borrow.Author.Needs.{needs}
 use Rattle.assembly.proofs.add_entry.Statement.{statement}
 use Rattle.assembly.proofs.add_entry.Tie as tie
@@ -14,13 +15,13 @@ dot-requires : tie.Need-dot-requires
 dot-requires c κs = search needs
 
 mul-add-to : tie.Need-mul-add-to
-mul-add-to c = let a = c .before .before .before .before .args in omega (arith, in-square (a .n) (a .col) (a .row) (omega arith) (omega arith))
+mul-add-to c = let a = c .before .before .before .before .args in let z : a .col * a .n + a .row < a .n * a .n = digits-lt (omega arith) (omega arith) in omega arith
 
 add-add-to : tie.Need-add-add-to
-add-add-to c = let a = c .before .before .before .before .args in omega (arith, in-square (a .n) (a .col) (a .row) (omega arith) (omega arith))
+add-add-to c = let a = c .before .before .before .before .args in let z : a .col * a .n + a .row < a .n * a .n = digits-lt (omega arith) (omega arith) in omega arith
 
 add-to-requires : tie.Need-add-to-requires
-add-to-requires c κs = let a = c .before .before .before .before .args in omega (arith, in-square (a .n) (a .col) (a .row) (omega arith) (omega arith))
+add-to-requires c κs = let a = c .before .before .before .before .args in let z : a .col * a .n + a .row < a .n * a .n = digits-lt (omega arith) (omega arith) in omega arith
 
 same-length : tie.Need-same-length
 same-length c = search needs

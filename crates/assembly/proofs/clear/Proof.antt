@@ -4,7 +4,8 @@ use mathlib.Core.List.{_++_}
 use native.Mathlib.Omega.{arith}
 use lib.ListN.{length, drop, replicate, length-set}
 use Rattle.numbers.specs.Notation.{num}
-use Rattle.assembly.proofs.Laws.{fill-more, zero-num}
+use Rattle.numbers.proofs.Filling.{fill-more}
+use Rattle.solve.proofs.Zeros.{literal-zero}
 use borrow.Author.Needs.{needs}
 use Rattle.assembly.proofs.clear.Statement.{statement}
 use Rattle.assembly.proofs.clear.Tie as tie
@@ -31,7 +32,7 @@ loop-less : tie.Need-loop-less Inv-loop μ-loop
 loop-less c = search needs
 
 loop-again : tie.Need-loop-again Inv-loop μ-loop
-loop-again c = let a = c .before .before .args in let l = c .before .loop in (omega arith, simp length-set (l .inv .1), rw (← zero-num, l .inv .2) (fill-more (l .i) (num 0) (a .w .now) (omega arith)))
+loop-again c = let a = c .before .before .args in let l = c .before .loop in (omega arith, simp length-set (l .inv .1), rw (literal-zero, l .inv .2) (fill-more (l .i) (num 0) (a .w .now) (omega arith)))
 
 same-length : tie.Need-same-length Inv-loop μ-loop
 same-length c = search needs

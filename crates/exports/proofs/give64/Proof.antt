@@ -4,7 +4,7 @@ use native.Mathlib.Omega.{arith}
 use borrow.Author.Needs.{needs}
 use lib.ListN.{length, getD}
 use lib.Ieee.{nan}
-use Rattle.sparse_pgo.proofs.Laying.{Laid, laid-none, laid-more, laid-from}
+use Rattle.numbers.proofs.Laying.{Laid, laid-none, laid-more, laid-from}
 use Rattle.exports.proofs.give64.Statement.{statement}
 use Rattle.exports.proofs.give64.Tie as tie
 

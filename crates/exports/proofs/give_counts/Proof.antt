@@ -3,7 +3,7 @@ use mathlib.Core.Path.{refl}
 use native.Mathlib.Omega.{arith}
 use borrow.Author.Needs.{needs}
 use lib.ListN.{length, getD}
-use Rattle.sparse_pgo.proofs.Laying.{Laid, laid-none, laid-more, laid-from}
+use Rattle.numbers.proofs.Laying.{Laid, laid-none, laid-more, laid-from}
 use Rattle.exports.proofs.give_counts.Statement.{statement}
 use Rattle.exports.proofs.give_counts.Tie as tie
 

@@ -7,7 +7,7 @@ use lib.Dec.{eqb}
 use lib.ListN.{length}
 use denote.Ref.{now}
 use borrow.Author.Tests.{eqb-true, not-false}
-use Rattle.solve.proofs.Tests.{and-first, and-second}
+use Rattle.numbers.proofs.Tests.{and-first, and-second}
 use Rattle.residual.proofs.Steps.{passed, turned-away}
 use borrow.Author.Needs.{needs}
 use Rattle.exports.proofs.pgo_decide.Statement.{statement}

@@ -2,7 +2,7 @@ use lib.Dec.{eqb}
 use lib.ListN.{length}
 use denote.Ref.{now}
 use borrow.Author.Tests.{eqb-true, not-false}
-use Rattle.solve.proofs.Tests.{and-second}
+use Rattle.numbers.proofs.Tests.{and-second}
 use mathlib.Core.Path.{refl}
 use Rattle.residual.proofs.Steps.{passed, turned-away}
 use Rattle.exports.specs.Layers.{logOut}

@@ -7,7 +7,7 @@ use borrow.Author.Tests.{eqb-true, not-false}
 use lib.Dec.{eqb}
 use lib.ListN.{length}
 use denote.Ref.{now}
-use Rattle.solve.proofs.Tests.{and-second}
+use Rattle.numbers.proofs.Tests.{and-second}
 use borrow.Author.Needs.{needs}
 use Rattle.exports.proofs.pgo_residual.Statement.{statement}
 use Rattle.exports.proofs.pgo_residual.Tie as tie

@@ -4,7 +4,7 @@ use borrow.Author.Tests.{eqb-true, not-false}
 use lib.Dec.{eqb}
 use lib.ListN.{length}
 use denote.Ref.{now}
-use Rattle.solve.proofs.Tests.{and-first, and-second}
+use Rattle.numbers.proofs.Tests.{and-first, and-second}
 use mathlib.Core.Path.{refl}
 use Rattle.residual.proofs.Steps.{passed, turned-away}
 use Rattle.exports.specs.Exported.{lists, roomOf, exported}

@@ -1,7 +1,7 @@
 use mathlib.Core.Path.{sym}
 use lib.ListN.{List·getD-eq-default}
 use Rattle.graph.specs.Lent.{none}
-use Rattle.graph.proofs.General.{getD-within}
+use Rattle.numbers.proofs.Filling.{getD-within}
 use borrow.Author.Needs.{needs}
 use Rattle.graph.proofs.block_at.Statement.{statement}
 use Rattle.graph.proofs.block_at.Tie as tie

@@ -2,7 +2,7 @@ use Prim.Native.Nat.{_*_}
 use native.Mathlib.Omega.{arith}
 use mathlib.Core.Path.{ap, _∙_}
 use Rattle.graph.specs.Lent.{edgeFrom}
-use Rattle.graph.proofs.General.{nan-past}
+use Rattle.numbers.proofs.Filling.{nan-past}
 use borrow.Author.Needs.{needs}
 use Rattle.graph.proofs.edge_at.Statement.{statement}
 use Rattle.graph.proofs.edge_at.Tie as tie

@@ -11,7 +11,7 @@ use Rattle.numbers.proofs.Tables.{replicate-table, table-read}
 use Rattle.graph.specs.Graph.{isFree, blockOf}
 use Rattle.graph.specs.Lent.{lentGraph, none}
 use Rattle.graph.specs.Table.{blockNumber}
-use Rattle.graph.proofs.General.{filled, fill-none, fill-store, fill-keep, fill-all}
+use Rattle.numbers.proofs.Filling.{filled, fill-none, fill-store, fill-keep, fill-all}
 use borrow.Author.Needs.{needs}
 use Rattle.graph.proofs.numbered.Statement.{statement}
 use Rattle.graph.proofs.numbered.Tie as tie

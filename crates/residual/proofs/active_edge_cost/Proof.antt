@@ -1,3 +1,5 @@
+use denote.Ref.{now}
+use Rattle.graph.specs.Lent.{poseAt, lentLinks}
 use Rattle.residual.proofs.Costing.{passed-over, counted}
 use borrow.Author.Needs.{needs}
 use Rattle.residual.proofs.active_edge_cost.Statement.{statement}
@@ -31,13 +33,27 @@ is-block-requires-2 : tie.Need-is-block-requires-2
 is-block-requires-2 c κs = search needs
 
 returns : tie.Need-returns
-returns c = search passed-over
+returns c =
+    let t = c .before in
+    let s = t .before .before in
+    let y = s .before .before in
+    let a = y .before .before .before .before .before .args in
+    passed-over (lentLinks (now (a .ends)) (now (a .edges)) (now (a .blocks)) (a .free)) (poseAt (now (a .poses))) (a .k) (a .c)
+    (y .before .index-at .ensures) (y .index-at2 .ensures) (s .before .slot-at .ensures) (t .before .slot-at2 .ensures) (s .is-block .ensures) (t .is-block2 .ensures)
+    (c .if1 .taken)
 
 edge-cost-requires : tie.Need-edge-cost-requires
 edge-cost-requires c κs = search needs
 
 returns-2 : tie.Need-returns-2
-returns-2 c = search counted
+returns-2 c =
+    let t = c .before .before in
+    let s = t .before .before in
+    let y = s .before .before in
+    let a = y .before .before .before .before .before .args in
+    counted (lentLinks (now (a .ends)) (now (a .edges)) (now (a .blocks)) (a .free)) (poseAt (now (a .poses))) (a .k) (a .c)
+    (y .before .index-at .ensures) (y .index-at2 .ensures) (s .before .slot-at .ensures) (t .before .slot-at2 .ensures) (s .is-block .ensures) (t .is-block2 .ensures)
+    (c .before .if1 .left) (c .edge-cost .ensures)
 
 pub active-edge-cost-spec : {M : Type 1} → statement M
 active-edge-cost-spec =

@@ -5,8 +5,8 @@ use Rattle.residual.proofs.residual_between.Tie as tie
 error-of-requires : tie.Need-error-of-requires
 error-of-requires c κs = search needs
 
-log-requires : tie.Need-log-requires
-log-requires c κs = search needs
+log-wide-requires : tie.Need-log-wide-requires
+log-wide-requires c κs = search needs
 
 weigh-requires : tie.Need-weigh-requires
 weigh-requires c κs = search needs
@@ -20,4 +20,4 @@ returns c = cc
 pub residual-between-spec : {M : Type 1} → statement M
 residual-between-spec =
     tie.close
-    (tie.spec error-of-requires log-requires weigh-requires six-if-finite-requires returns)
+    (tie.spec error-of-requires log-wide-requires weigh-requires six-if-finite-requires returns)

@@ -1,6 +1,14 @@
-use mathlib.Core.Path.{refl, sym, _∙_}
-use Rattle.residual.specs.Retraction.{retractGravity}
-use Rattle.residual.proofs.Steps.{both, passed, turned-away, turned-by, not-turned}
+use mathlib.Core.Path.{_≡_, refl, sym, ap, _∙_}
+use mathlib.Core.Bool.{_&&_}
+use lib.Ieee.{Float, neg}
+use lib.Ieee.Scale.{finite}
+use Rattle.numbers.specs.Walks.{every}
+use Rattle.rotations.specs.Rotation.{times}
+use Rattle.rotations.specs.ExpLog.{turnOf}
+use Rattle.pose_conversion.specs.Conversions.{finitePose}
+use Rattle.residual.specs.Retraction.{at, retractGravity}
+use Rattle.rotations.proofs.Steps.{turned-by, not-turned}
+use Rattle.residual.proofs.Steps.{both, passed, turned-away}
 use borrow.Author.Needs.{needs}
 use Rattle.residual.proofs.retract_gravity.Statement.{statement}
 use Rattle.residual.proofs.retract_gravity.Tie as tie
@@ -11,9 +19,12 @@ validate-pose-requires c κs = search needs
 validate-delta-requires : tie.Need-validate-delta-requires
 validate-delta-requires c κs = search needs
 
+tested : (c : tie.After-validate-delta) → (let a = c .before .before .args in (c .before .validate-pose .result && c .validate-delta .result) ≡ (finitePose (a .p) && every (λ j. finite (at (a .t3) j)) 4))
+tested c = both (c .before .validate-pose .ensures) (c .validate-delta .ensures)
+
 returns : tie.Need-returns
 unfolding retractGravity
-returns c = turned-away _ (both (c .before .before .validate-pose .ensures) (c .before .validate-delta .ensures)) (c .if1 .taken) refl
+returns c = turned-away _ (tested (c .before)) (c .if1 .taken) refl
 
 array-read-widen : tie.Need-array-read-widen
 array-read-widen c = search needs
@@ -33,13 +44,19 @@ enum-known-q c = search needs
 enum-told : tie.Need-enum-told
 enum-told c = search needs
 
+turn : (c : tie.After-turn-of) → (let a = c .before .before .before .before .before .before .args in c .turn-of .result ≡ turnOf (times (neg (at (a .t3) 3)) (a .g)))
+turn c =
+    let g = c .before .before .before .before .before .before .args .g in
+    let w : c .before .scaled .result ≡ times (neg (c .before .before .widen .result)) g = c .before .scaled .ensures in
+    c .turn-of .ensures ∙ ap turnOf (w ∙ ap (λ (x : Float). times (neg x) g) (c .before .before .widen .ensures))
+
 returns-2 : tie.Need-returns-2
 unfolding retractGravity
 returns-2 c =
     let x = c .before .before in
     let s = x .before .before .before in
-    passed _ (both (s .before .before .validate-pose .ensures) (s .before .validate-delta .ensures)) (s .if1 .left)
-    (not-turned _ _ (rw (← x .before .before .widen .ensures, ← x .before .scaled .ensures) (sym (x .turn-of .ensures) ∙ c .enum-told .given .1)) refl)
+    passed _ (tested (s .before)) (s .if1 .left)
+    (not-turned _ (sym (turn x) ∙ c .enum-told .given .1) refl)
 
 centre-of-requires : tie.Need-centre-of-requires
 centre-of-requires c κs = search needs
@@ -56,8 +73,8 @@ returns-3 c =
     let q = c .before .before .before .before in
     let x = q .before .before in
     let s = x .before .before .before in
-    passed _ (both (s .before .before .validate-pose .ensures) (s .before .validate-delta .ensures)) (s .if1 .left)
-    (turned-by _ _ (q .q .given .0 .0) (rw (← x .before .before .widen .ensures, ← x .before .scaled .ensures) (sym (x .turn-of .ensures) ∙ q .q .given .1))
+    passed _ (tested (s .before)) (s .if1 .left)
+    (turned-by _ _ (q .q .given .0 .0) (sym (turn x) ∙ q .q .given .1)
     (rw (← c .before .before .centre-of .ensures, ← c .before .turned-pose .ensures) (c .valid-pose .ensures)))
 
 pub retract-gravity-spec : {M : Type 1} → statement M

@@ -1,7 +1,8 @@
 use mathlib.Core.Path.{refl, sym, _∙_}
 use Rattle.pose_conversion.proofs.Steps.{into, not-into}
 use Rattle.residual.specs.Retraction.{retractSe3}
-use Rattle.residual.proofs.Steps.{passed, turned-away, moved-to, not-moved}
+use Rattle.rotations.proofs.Steps.{moved-to, not-moved}
+use Rattle.residual.proofs.Steps.{passed, turned-away}
 use borrow.Author.Needs.{needs}
 use Rattle.residual.proofs.retract_se3.Statement.{statement}
 use Rattle.residual.proofs.retract_se3.Tie as tie
@@ -53,7 +54,7 @@ returns-3 c =
     let p = a .before .before in
     passed _ (p .before .before .validate-delta .ensures) (p .before .if1 .left)
     (into _ _ _ (sym (p .checked-pose-to-se3 .ensures) ∙ a .a .given .1)
-    (not-moved _ _ (rw (← x .before .three-from2 .ensures, ← x .before .before .three-from .ensures) (sym (x .exp .ensures) ∙ c .enum-told .given .1)) refl))
+    (not-moved _ (rw (← x .before .three-from2 .ensures, ← x .before .before .three-from .ensures) (sym (x .exp .ensures) ∙ c .enum-told .given .1)) refl))
 
 product-of-requires : tie.Need-product-of-requires
 product-of-requires c κs = search needs

@@ -1,4 +1,4 @@
-use Rattle.rotations.proofs.Steps.{turned-by, turned-too-far}
+use Rattle.rotations.proofs.Steps.{turned-by, not-turned}
 use Rattle.rotations.specs.ExpLog.{expOf}
 use borrow.Author.Needs.{needs}
 use Rattle.rotations.proofs.exp.Statement.{statement}
@@ -15,14 +15,14 @@ enum-told c = search needs
 
 returns : tie.Need-returns
 unfolding expOf
-returns c = turned-too-far _ (cc) (cc)
+returns c = not-turned _ (cc) (cc)
 
 moved-by-requires : tie.Need-moved-by-requires
 moved-by-requires c κs = search needs
 
 returns-2 : tie.Need-returns-2
 unfolding expOf
-returns-2 c = turned-by _ (c .before .before .q .given .0 .0) (cc) (cc)
+returns-2 c = turned-by _ _ (c .before .before .q .given .0 .0) (cc) (cc)
 
 pub exp-spec : {M : Type 1} → statement M
 exp-spec =

@@ -12,7 +12,7 @@ use lib.Ieee.{Float, nan}
 use lib.Ieee.Scale.{finite}
 use Rattle.numbers.specs.Walks.{every}
 use Rattle.numbers.proofs.Walking.{every-more}
-use Rattle.solve.proofs.Tests.{every-none, every-miss}
+use Rattle.numbers.proofs.Walking.{every-none, every-miss}
 use Rattle.solve.proofs.all_finite.Statement.{statement}
 use Rattle.solve.proofs.all_finite.Tie as tie
 

@@ -6,7 +6,7 @@ use Prim.Native.Nat.{_*_}
 use native.Mathlib.Omega.{arith}
 use lib.ListN.{length, drop}
 use lib.Seq.{length-take-le}
-use Rattle.assembly.proofs.Laws.{withPart}
+use Rattle.numbers.proofs.Parted.{withPart}
 use Rattle.sparse_pgo.proofs.Running.{BothHalves, copied-in, halves-lent, halves-beside, begun-joined, begun-refused}
 use borrow.Author.Needs.{needs}
 use Rattle.sparse_pgo.proofs.begun.Statement.{statement}

@@ -5,7 +5,7 @@ use borrow.Author.Needs.{needs}
 use lib.ListN.{length}
 use lib.Ieee.{nan, ofBits}
 use Rattle.numbers.specs.Notation.{num, ratio}
-use Rattle.sparse_pgo.proofs.Laying.{Laid, laid-none, laid-more, laid-with}
+use Rattle.numbers.proofs.Laying.{Laid, laid-none, laid-more, laid-with}
 use Rattle.sparse_pgo.proofs.clear32.Statement.{statement}
 use Rattle.sparse_pgo.proofs.clear32.Tie as tie
 

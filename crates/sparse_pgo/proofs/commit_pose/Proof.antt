@@ -6,7 +6,7 @@ use lib.Ieee.{Float}
 use Rattle.graph.specs.Lent.{poseAt}
 use Rattle.sparse_pgo.specs.Turns.{slotsIn, triedIn}
 use Rattle.sparse_pgo.proofs.Commits.{commit-fixed, commit-free}
-use Rattle.sparse_pgo.proofs.Halves.{rest-whole}
+use Rattle.numbers.proofs.Parted.{part-from}
 use Rattle.sparse_pgo.proofs.commit_pose.Statement.{statement}
 use Rattle.sparse_pgo.proofs.commit_pose.Tie as tie
 
@@ -56,7 +56,7 @@ returns-2 c =
     let h = c .before .before .before .before .before .before .before in
     let a = h .before .before .before .before .before .args in
     let part : c .before .before .before .before .pose-at .result ≡ poseAt (triedIn (a .job) (a .w64 .now)) (a .p) =
-    c .before .before .before .before .pose-at .ensures ∙ ap (λ (l : List Float). poseAt l (a .p)) (rest-whole (a .job .poses * 12) (a .w64 .now)) in
+    c .before .before .before .before .pose-at .ensures ∙ ap (λ (l : List Float). poseAt l (a .p)) (part-from (a .job .poses * 12) (a .w64 .now)) in
     commit-free (a .job) (slotsIn (a .job) (a .blocks .now)) (a .p) (a .w64 .now) _ _ _ (sym (h .before .before .slot-at .ensures) ∙ h .enum-told .given .1) part (c .before .before .store-pose .ensures)
 
 pub commit-pose-spec : {M : Type 1} → statement M

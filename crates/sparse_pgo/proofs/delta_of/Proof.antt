@@ -8,7 +8,7 @@ use lib.ListN.{getD}
 use lib.Ieee.{nan, ofBits}
 use Rattle.numbers.specs.Notation.{num, ratio}
 use Rattle.sparse_pgo.specs.Numerics.{partOf}
-use Rattle.sparse_pgo.proofs.Laying.{Laid, laid-none, laid-more, laid-upto}
+use Rattle.numbers.proofs.Laying.{Laid, laid-none, laid-more, laid-upto}
 use Rattle.sparse_pgo.proofs.delta_of.Statement.{statement}
 use Rattle.sparse_pgo.proofs.delta_of.Tie as tie
 

@@ -1,3 +1,5 @@
+use mathlib.Core.Path.{_≡_}
+use Rattle.decisions.specs.Run.{solved}
 use Rattle.sparse_pgo.proofs.Settling.{settled-moved, settled-kept, accepted-told, rejected-told, untried-told}
 use borrow.Author.Needs.{needs}
 use Rattle.sparse_pgo.proofs.settle.Statement.{statement}
@@ -21,16 +23,22 @@ enum-told-2 c = search needs
 same-length : tie.Need-same-length
 same-length c = search needs
 
+-- what follows the solve is asked with the limit and the tolerance of the job
+decided : (c : tie.After-after-solve)
+    → let a = c .before .before .before .args in c .after-solve .result ≡ solved (a .s) (a .job .settings .limit) (a .job .settings .«cost_tolerance») (a .o)
+decided c = c .after-solve .ensures
+
 returns : tie.Need-returns
 returns c =
-    settled-moved (c .before .before .before .before .before .before .before .before .before .after-solve .ensures) (accepted-told (c .before .before .before .before .before .before .before .o .given .1) (c .before .before .before .before .enum-told .given .1)) (c .before .before .commit .ensures)
+    let s = c .before .before .before .before .before .before .before .before .before in
+    settled-moved (decided s) (accepted-told (c .before .before .before .before .before .before .before .o .given .1) (c .before .before .before .before .enum-told .given .1)) (c .before .before .commit .ensures)
 
 returns-2 : tie.Need-returns-2
 returns-2 c =
-    settled-kept (c .before .before .before .before .before .after-solve .ensures) (rejected-told (c .before .before .before .o .given .1) (c .enum-told2 .given .1))
+    settled-kept (decided (c .before .before .before .before .before)) (rejected-told (c .before .before .before .o .given .1) (c .enum-told2 .given .1))
 
 returns-3 : tie.Need-returns-3
-returns-3 c = settled-kept (c .before .after-solve .ensures) (untried-told (c .before .before .before .before .args .o) (c .match .keys2))
+returns-3 c = settled-kept (decided (c .before)) (untried-told (c .before .before .before .before .args .o) (c .match .keys2))
 
 pub settle-spec : {M : Type 1} → statement M
 settle-spec =

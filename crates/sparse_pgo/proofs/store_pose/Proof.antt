@@ -4,7 +4,8 @@ use native.Mathlib.Omega.{arith}
 use borrow.Author.Needs.{needs}
 use lib.ListN.{getD}
 use lib.Ieee.{nan}
-use Rattle.sparse_pgo.proofs.Laying.{Laid, laid-none, laid-more, laid-pose}
+use Rattle.numbers.proofs.Laying.{Laid, laid-none, laid-more}
+use Rattle.sparse_pgo.proofs.Halves.{laid-pose}
 use Rattle.sparse_pgo.proofs.store_pose.Statement.{statement}
 use Rattle.sparse_pgo.proofs.store_pose.Tie as tie
 

@@ -4,10 +4,6 @@ use lib.ListN.{length}
 use borrow.Author.Needs.{needs}
 use Rattle.samples.proofs.graphs.link.Statement.{statement}
 use Rattle.samples.proofs.graphs.link.Tie as tie
-use Rattle.samples.proofs.graphs.link.Reads as reads
-use Rattle.samples.proofs.graphs.link.Lts as lts
-use Rattle.samples.proofs.graphs.index.Reads as index-reads
-use Rattle.samples.proofs.graphs.put_end.Reads as put-end-reads
 
 abbrev Inv-loop : tie.InvT-loop
 Inv-loop ends₀ i₀ ends i = length ends ≡ length ends₀
@@ -15,39 +11,30 @@ Inv-loop ends₀ i₀ ends i = length ends ≡ length ends₀
 abbrev μ-loop : tie.MeasureT-loop
 μ-loop ends₀ i₀ ends i = length ends₀ - i
 
--- src/graphs.rt:85:5
 loop-holds : tie.Need-loop-holds Inv-loop μ-loop
 loop-holds c = search needs
 
--- src/graphs.rt:86:33
 add-index : tie.Need-add-index Inv-loop μ-loop
 add-index c = search needs
 
--- src/graphs.rt:86:26
 index-requires : tie.Need-index-requires Inv-loop μ-loop
 index-requires c κs = search needs
 
--- src/graphs.rt:86:9
 put-end-requires : tie.Need-put-end-requires Inv-loop μ-loop
 put-end-requires c κs = search needs
 
--- src/graphs.rt:87:9
 add-i : tie.Need-add-i Inv-loop μ-loop
 add-i c = search needs
 
--- src/graphs.rt:85:5
 loop-less : tie.Need-loop-less Inv-loop μ-loop
 loop-less c = search needs
 
--- src/graphs.rt:85:5
 loop-again : tie.Need-loop-again Inv-loop μ-loop
 loop-again c = search needs
 
--- src/graphs.rt:83:1
 same-length : tie.Need-same-length Inv-loop μ-loop
 same-length c = search needs
 
--- src/graphs.rt:83:1
 returns : tie.Need-returns Inv-loop μ-loop
 returns c = tt
 

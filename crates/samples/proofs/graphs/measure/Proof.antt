@@ -4,9 +4,6 @@ use lib.ListN.{length}
 use borrow.Author.Needs.{needs}
 use Rattle.samples.proofs.graphs.measure.Statement.{statement}
 use Rattle.samples.proofs.graphs.measure.Tie as tie
-use Rattle.samples.proofs.graphs.measure.Reads as reads
-use Rattle.samples.proofs.graphs.measure.Lts as lts
-use Rattle.samples.proofs.graphs.put_edge.Reads as put-edge-reads
 
 abbrev Inv-loop : tie.InvT-loop
 Inv-loop edges₀ edge n k₀ edges k = length edges ≡ length edges₀
@@ -14,31 +11,24 @@ Inv-loop edges₀ edge n k₀ edges k = length edges ≡ length edges₀
 abbrev μ-loop : tie.MeasureT-loop
 μ-loop edges₀ edge n k₀ edges k = n - k
 
--- src/graphs.rt:107:5
 loop-holds : tie.Need-loop-holds Inv-loop μ-loop
 loop-holds c = search needs
 
--- src/graphs.rt:108:9
 put-edge-requires : tie.Need-put-edge-requires Inv-loop μ-loop
 put-edge-requires c κs = search needs
 
--- src/graphs.rt:109:9
 add-k : tie.Need-add-k Inv-loop μ-loop
 add-k c = search needs
 
--- src/graphs.rt:107:5
 loop-less : tie.Need-loop-less Inv-loop μ-loop
 loop-less c = search needs
 
--- src/graphs.rt:107:5
 loop-again : tie.Need-loop-again Inv-loop μ-loop
 loop-again c = search needs
 
--- src/graphs.rt:104:1
 same-length : tie.Need-same-length Inv-loop μ-loop
 same-length c = search needs
 
--- src/graphs.rt:104:1
 returns : tie.Need-returns Inv-loop μ-loop
 returns c = tt
 

@@ -4,9 +4,6 @@ use lib.ListN.{length}
 use borrow.Author.Needs.{needs}
 use Rattle.samples.proofs.graphs.put_edge.Statement.{statement}
 use Rattle.samples.proofs.graphs.put_edge.Tie as tie
-use Rattle.samples.proofs.graphs.put_edge.Reads as reads
-use Rattle.samples.proofs.graphs.put_edge.Lts as lts
-use Rattle.samples.proofs.graphs.put32.Reads as put32-reads
 
 abbrev Inv-loop : tie.InvT-loop
 Inv-loop edges₀ k edge j₀ edges j = length edges ≡ length edges₀
@@ -14,51 +11,39 @@ Inv-loop edges₀ k edge j₀ edges j = length edges ≡ length edges₀
 abbrev μ-loop : tie.MeasureT-loop
 μ-loop edges₀ k edge j₀ edges j = 8 - j
 
--- src/graphs.rt:94:9
 returns : tie.Need-returns Inv-loop μ-loop
 returns c = tt
 
--- src/graphs.rt:97:5
 loop-holds : tie.Need-loop-holds Inv-loop μ-loop
 loop-holds c = search needs
 
--- src/graphs.rt:98:22
 mul-put32 : tie.Need-mul-put32 Inv-loop μ-loop
 mul-put32 c = search needs
 
--- src/graphs.rt:98:22
 add-put32 : tie.Need-add-put32 Inv-loop μ-loop
 add-put32 c = search needs
 
--- src/graphs.rt:98:33
 mul-put32-2 : tie.Need-mul-put32-2 Inv-loop μ-loop
 mul-put32-2 c = search needs
 
--- src/graphs.rt:98:33
 array-read-put32 : tie.Need-array-read-put32 Inv-loop μ-loop
 array-read-put32 c = search needs
 
--- src/graphs.rt:98:9
 put32-requires : tie.Need-put32-requires Inv-loop μ-loop
 put32-requires c κs = search needs
 
--- src/graphs.rt:99:9
 add-j : tie.Need-add-j Inv-loop μ-loop
 add-j c = search needs
 
--- src/graphs.rt:97:5
 loop-less : tie.Need-loop-less Inv-loop μ-loop
 loop-less c = search needs
 
--- src/graphs.rt:97:5
 loop-again : tie.Need-loop-again Inv-loop μ-loop
 loop-again c = search needs
 
--- src/graphs.rt:92:1
 same-length : tie.Need-same-length Inv-loop μ-loop
 same-length c = search needs
 
--- src/graphs.rt:92:1
 returns-2 : tie.Need-returns-2 Inv-loop μ-loop
 returns-2 c = tt
 

@@ -11,11 +11,9 @@ use borrow.Author.Tests.{ltb-true, ltb-false}
 use lib.Dec.{ltb}
 use lib.ListN.{length, getD, set, replicate, length-set, length-replicate, getD-replicate}
 use lib.Seq.{ext-getD, getD-set-same, getD-set-other}
-use lib.Ieee.{Float, nan}
 use Rattle.numbers.specs.Notation.{if-then}
 use Rattle.numbers.specs.Walks.{table}
 use Rattle.numbers.proofs.Tables.{is-table}
-use Rattle.sparse_pgo.specs.Turns.{Stored}
 
 module _ {A : Type 0} (d : A) where
   -- l is l₀ with f 0, .. f (j - 1) from place `at` on
@@ -65,10 +63,3 @@ module _ {A : Type 0} (d : A) where
       go : (k : ℕ) → k < n → (b : Bool) → (b ≡ true → k < m) → (b ≡ false → m ≤ k) → getD l k d ≡ if-then b (f k) z
       go k q true y _ = let r : k < m = y refl in from-start h k (omega arith)
       go k q false _ y = let r : m ≤ k = y refl in h .outside k (inr (omega arith)) ∙ getD-replicate n k z d q
-
--- a pose's twelve numbers
-pub laid-pose : {at : ℕ} {l l' : List Float} {j : ℕ} (ns : List Float) {ms : List Float} → Laid nan (λ k. getD ns k nan) at l l' j → j ≡ 12 → ns ≡ ms → Stored l l' at ms
-laid-pose {at} {l} {l'} ns h e em = rw (← em) (record { len = h' .len; inside = h' .inside; outside = h' .outside })
-  where
-    h' : Laid nan (λ k. getD ns k nan) at l l' 12
-    h' = rw (← e) h

@@ -1,15 +1,14 @@
 -- A row of steps taken as one step: a row of rows is one row; and what a row says whose steps say what tests say. Assumes nothing.
 use mathlib.Core.Path.{_≡_, refl, sym, ap, fun-ext, _∙_}
 use mathlib.Core.Bool.{Bool, true, false, _&&_}
-use mathlib.Core.Logic.{⊎-elim}
 use Prim.Native.Nat.{ℕ, zero, suc, _+_, _*_, _<_}
-use native.Mathlib.Nat.{add-zero, add-suc, zero-mul, suc-mul, not-suc-le-zero, le-of-suc-le-suc, eq-or-lt-of-le}
+use native.Mathlib.Nat.{add-zero, add-suc, zero-mul, suc-mul}
 use native.Mathlib.Omega.{arith}
 use Rattle.numbers.specs.Notation.{if-then}
 use Rattle.numbers.specs.Walks.{Ended, done, stopped, every, turn, next, each, well, andThen}
 use Rattle.numbers.specs.declared.Failure.the-variants.{Numerical}
 use Rattle.numbers.specs.declared.Went.{Went}
 use Rattle.numbers.specs.declared.Went.the-variants.{Well, Bad}
 
 module _ {S : Type 0} where
   well-turn : (n : ℕ) (x : Went × S) → well (turn n x) ≡ x
@@ -76,30 +75,3 @@ module _ {S : Type 0} where
   each-told I t f (suc n) s h i =
       let a = each-told I t f n s (λ k l. h k (omega arith)) i in
       rw (each-then f n s) (then-told (I n) (I (suc n)) (well (each f n s)) (f n) (every t n) (t n) (a .0) (a .1) (λ y. h n (omega arith) y))
-
--- ---- a test that holds of every number below n
-pub every-at : (t : ℕ → Bool) (n k : ℕ) → every t n ≡ true → k < n → t k ≡ true
-unfolding every
-every-at t zero k e l = absurd (not-suc-le-zero l)
-every-at t (suc n) k e l = ⊎-elim (λ (i : k ≡ n). rw i (and-right (every t n) (t n) e)) (λ (i : k < n). every-at t n k (and-left (every t n) (t n) e) i) (eq-or-lt-of-le (le-of-suc-le-suc l))
-  where
-    and-left : (a b : Bool) → (a && b) ≡ true → a ≡ true
-    and-left true b e = refl
-    and-left false b e = e
-
-    and-right : (a b : Bool) → (a && b) ≡ true → b ≡ true
-    and-right true b e = e
-    and-right false b e = absurd (let z : _≡_ {A = ℕ} 0 1 = cc in omega arith)
-
-pub every-all : (t : ℕ → Bool) (n : ℕ) → ((k : ℕ) → k < n → t k ≡ true) → every t n ≡ true
-unfolding every
-every-all t zero h = refl
-every-all t (suc n) h = rw (every-all t n (λ k l. h k (omega arith))) (h n (omega arith))
-
-pub every-same : (t u : ℕ → Bool) (n : ℕ) → (((k : ℕ) → k < n → t k ≡ true) → (k : ℕ) → k < n → u k ≡ true) → (((k : ℕ) → k < n → u k ≡ true) → (k : ℕ) → k < n → t k ≡ true) → every t n ≡ every u n
-every-same t u n f g = go (every t n) (every u n) refl refl
-  where
-    go : (a b : Bool) → every t n ≡ a → every u n ≡ b → a ≡ b
-    go true b p q = sym (every-all u n (f (λ k. every-at t n k p))) ∙ q
-    go false true p q = sym p ∙ every-all t n (g (λ k. every-at u n k q))
-    go false false p q = refl

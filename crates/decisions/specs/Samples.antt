@@ -1,15 +1,12 @@
--- The samples of document 01 on damping, as one statement over a list of cases that antt computes. Assumes nothing.
-use mathlib.Core.Path.{_≡_, refl}
-use mathlib.Core.Bool.{false}
-use mathlib.Core.List.{List, [], _∷_, map}
+-- What a sample of document 01 on damping asks, and its answer. Definitions only.
+use mathlib.Core.List.{List, [], _∷_}
 use Prim.Native.Nat.{ℕ, zero, suc}
 use lib.Dec.{eqb}
-use lib.IntN.{negsuc}
-use lib.Ieee.{Float, fin, binary32, toBits, mul, div, lt}
-use Rattle.numbers.specs.Notation.{num, ratio, ratio32, if-then}
-use Rattle.decisions.specs.Damping.{most, least, increased, decreased}
-use Rattle.decisions.specs.Run.{begun, oneMore, failing, solved, heard, assembled, passed, thenSolve, turned}
-use Rattle.decisions.specs.Driven.{settled, after, driven}
+use lib.Ieee.{Float, binary32, toBits}
+use Rattle.numbers.specs.Notation.{num, if-then}
+use Rattle.decisions.specs.Damping.{increased, decreased}
+use Rattle.decisions.specs.Run.{begun}
+use Rattle.decisions.specs.Driven.{driven}
 use Rattle.decisions.specs.declared.Raw.the-variants as raw
 use Rattle.decisions.specs.declared.End.the-variants as end
 use Rattle.decisions.specs.declared.Event.{Event}
@@ -43,9 +40,3 @@ unfolding toBits increased decreased driven if-then
 answer (raised d n) = toBits binary32 (times n d)
 answer (failed d) = refusedAfter (driven 1000 (num 0) (next.On (begun (num 0) d)) (failures 60))
 answer (lowered d) = toBits binary32 (decreased d)
-
--- 1 raised ten times is 1e10, and the eleventh raise passes it; from 1e9 the second does, from 1e10 the first, from 2 ^ -149 the 55th; 1e-20 accepted becomes 1e-10
-pub samples : map answer (raised (num 1) 10 ∷ failed (num 1) ∷ failed (num 1000000000) ∷ failed most ∷ failed (fin false 1 (negsuc 148)) ∷ lowered (ratio32 1 100000000000000000000) ∷ [])
-    ≡ toBits binary32 most ∷ 11 ∷ 2 ∷ 1 ∷ 55 ∷ toBits binary32 least ∷ []
-unfolding answer settled after turned thenSolve passed assembled solved heard failing oneMore mul div lt ratio ratio32
-samples = refl

@@ -1,38 +1,19 @@
--- General laws that the checks need: tests, counts, lists within and past their end, tables that are marked and filled. Assumes nothing.
+-- Lists within and past their end, tables that are marked and filled, and lists filled from the front. Assumes nothing.
 use Prim.Native.Nat.{ℕ, zero, suc, _+_, _<_, _≤_}
 use native.Mathlib.Omega.{arith}
-use native.Mathlib.Nat.{add-suc, add-zero, le-add-right, lt-irrefl, lt-of-le-of-lt, not-suc-le-zero, le-of-suc-le-suc}
-use mathlib.Core.Path.{_≡_, refl, sym, subst, fun-ext, _∙_}
+use native.Mathlib.Nat.{lt-irrefl, lt-of-le-of-lt, not-suc-le-zero, le-of-suc-le-suc}
+use native.Mathlib.Numerals.{add-one}
+use mathlib.Core.Path.{_≡_, refl, sym, ap, subst, fun-ext, _∙_}
 use mathlib.Core.Bool.{Bool, true, false, not, _&&_, _||_, or-true, or-false, and-true, and-false}
-use mathlib.Core.List.{List, [], _∷_}
-use lib.ListN.{length, getD, set, List·getD-eq-default}
+use mathlib.Core.List.{List, [], _∷_, _++_}
+use lib.ListN.{length, getD, set, replicate, drop, List·getD-eq-default}
 use lib.Dec.{eqb, ltb}
 use lib.Ieee.{Float, nan}
 use borrow.Author.Tests.{eqb-true, eqb-false, eq-eqb, ne-eqb, ltb-true, ltb-false, lt-ltb, le-ltb}
 use Rattle.numbers.specs.Notation.{if-then}
-use Rattle.numbers.specs.Walks.{some, count, table}
+use Rattle.numbers.specs.Walks.{table}
 use Rattle.numbers.proofs.Choices.{taken, left}
 use Rattle.numbers.proofs.Tables.{table-ext, set-table}
-
--- ---- two tests that fail
-pub neither-first : (a b : Bool) → (a || b) ≡ false → a ≡ false
-neither-first true b e = e
-neither-first false b e = refl
-
-pub neither-second : (a b : Bool) → (a || b) ≡ false → b ≡ false
-neither-second true b e = let z : _≡_ {A = ℕ} 0 1 = cc in absurd (omega arith)
-neither-second false b e = e
-
--- ---- a test that fails on from a number adds nothing to a count
-pub some-never : (t : ℕ → Bool) (n : ℕ) → ((k : ℕ) → k < n → t k ≡ false) → some t n ≡ false
-unfolding some
-some-never t zero h = refl
-some-never t (suc n) h = rw (some-never t n (λ k l. h k (omega arith)), h n (omega arith))
-
-pub count-above : (t : ℕ → Bool) (n k : ℕ) → ((p : ℕ) → n ≤ p → t p ≡ false) → count t (n + k) ≡ count t n
-unfolding count
-count-above t n zero h = rw add-zero
-count-above t n (suc k) h = rw (add-suc, h (n + k) (le-add-right n k)) (count-above t n k h)
 
 -- ---- lists within and past their end
 
@@ -106,3 +87,13 @@ module _ (B : ℕ → ℕ) (z : ℕ) where
 
   pub fill-all : (n : ℕ) (l : List ℕ) → l ≡ table (filled B z n) n → l ≡ table B n
   fill-all n l e = e ∙ table-ext z (filled B z n) B n (λ q h. sym (filled-in n q h))
+
+-- ---- one more element of a list filled from the front
+module _ {A : Type 0} where
+  fill-suc : (n : ℕ) (v : A) (l : List A) → n < length l → set (replicate n v ++ drop n l) n v ≡ replicate (suc n) v ++ drop (suc n) l
+  fill-suc n v [] h = absurd (not-suc-le-zero h)
+  fill-suc zero v (x ∷ l) h = refl
+  fill-suc (suc n) v (x ∷ l) h = ap (λ (t : List A). v ∷ t) (fill-suc n v l (le-of-suc-le-suc h))
+
+  pub fill-more : (n : ℕ) (v : A) (l : List A) → n < length l → set (replicate n v ++ drop n l) n v ≡ replicate (n + 1) v ++ drop (n + 1) l
+  fill-more n v l h = rw (add-one n) (fill-suc n v l h)

@@ -1,0 +1,70 @@
+-- Document 01, "Sample joins": those marked *, as one statement over a list of cases, each with its answer, that antt computes. Assumes nothing.
+use mathlib.Core.Path.{_≡_, refl}
+use mathlib.Core.Bool.{false}
+use mathlib.Core.List.{List, [], _∷_, map}
+use Prim.Native.Nat.{ℕ}
+use lib.IntN.{negsuc}
+use lib.Ieee.{Float, fin, binary32, ofBits, toBits, add, sub, mul, div, neg, lt, le}
+use Rattle.numbers.specs.Notation.{num, ratio, ratio32, if-then}
+use Rattle.numbers.specs.Numbers.{rounded, rooted}
+use Rattle.numbers.specs.Samples as numbers
+use Rattle.rotations.specs.declared.Transform.{Transform}
+use Rattle.rotations.specs.Rotation.{dot, cross, plus, times, wide}
+use Rattle.rotations.specs.ExpLog.{over, series, bent, upright, halved, arcSeries, angleOf, unbend, logWide, narrowedTwist, logOf}
+use Rattle.rotations.specs.Samples as rotations
+use Rattle.decisions.specs.Damping.{most, least, increased, decreased}
+use Rattle.decisions.specs.Run.{oneMore, failing, solved, heard, assembled, passed, thenSolve, turned}
+use Rattle.decisions.specs.Driven.{settled, after, driven}
+use Rattle.decisions.specs.Samples as decisions
+
+pub data Case : Type 0 where
+  of-damping : decisions.Case → Case
+  of-numbers : numbers.Case → Case
+  of-rotations : rotations.Case → Case
+
+-- bits of numbers, or a count
+unfoldable pub answer : Case → List ℕ
+answer (of-damping c) = decisions.answer c ∷ []
+answer (of-numbers c) = numbers.answer c ∷ []
+answer (of-rotations c) = rotations.answer c
+
+-- a case and what it must give
+pub record Sample : Type 0 where
+  pub case : Case
+  pub gives : List ℕ
+
+abbrev pub damping : decisions.Case → ℕ → Sample
+damping c n = record { case = of-damping c; gives = n ∷ [] }
+
+abbrev pub number : numbers.Case → ℕ → Sample
+number c n = record { case = of-numbers c; gives = n ∷ [] }
+
+abbrev pub identity : Transform
+identity = record { q = record { x = num 0; y = num 0; z = num 0; w = num 1 }; t = record { x = num 0; y = num 0; z = num 0 } }
+
+unfoldable pub starred : List Sample
+starred =
+    -- damping 1: ten raises give exactly 1e10, the eleventh passes
+    damping (decisions.raised (num 1) 10) (toBits binary32 most)
+    ∷ damping (decisions.failed (num 1)) 11
+    -- 1e9: two raises; 1e10: one; 2⁻¹⁴⁹: 55
+    ∷ damping (decisions.failed (num 1000000000)) 2
+    ∷ damping (decisions.failed most) 1
+    ∷ damping (decisions.failed (fin false 1 (negsuc 148))) 55
+    -- 1e-20 accepted becomes 1e-10
+    ∷ damping (decisions.lowered (ratio32 1 100000000000000000000)) (toBits binary32 least)
+    -- √4 = 2, in f32 and in f64; √2 in f32
+    ∷ number (numbers.sqrt32 0x4080_0000) 0x4000_0000
+    ∷ number (numbers.sqrt64 0x4010_0000_0000_0000) 0x4000_0000_0000_0000
+    ∷ number (numbers.sqrt32 0x4000_0000) 0x3fb5_04f3
+    -- 2⁻¹⁵⁰ narrows to 0
+    ∷ number (numbers.narrow 0x3690_0000_0000_0000) 0
+    -- log of the identity is zero
+    ∷ record { case = of-rotations (rotations.log identity); gives = 0 ∷ 0 ∷ 0 ∷ 0 ∷ 0 ∷ 0 ∷ [] }
+    ∷ []
+
+pub starred-hold : map (λ (s : Sample). answer (s .case)) starred ≡ map (λ (s : Sample). s .gives) starred
+unfolding starred answer numbers.answer rotations.answer decisions.answer ratio ratio32 if-then add sub mul div neg lt le ofBits toBits rounded rooted
+    increased decreased driven settled after turned thenSolve passed assembled solved heard failing oneMore
+    dot cross plus times wide over series bent upright halved arcSeries angleOf unbend logWide narrowedTwist logOf
+starred-hold = refl
