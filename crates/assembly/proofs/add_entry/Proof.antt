@@ -9,7 +9,7 @@ use Rattle.assembly.proofs.add_entry.Tie as tie
 
 returns : tie.Need-returns
 unfolding entryOf
-returns c = simp (lt-leb _ _ (c .if1 .taken))
+returns c = let a = c .before .before .args in simp (lt-leb (a .col) (a .row) (c .if1 .taken))
 
 dot-requires : tie.Need-dot-requires
 dot-requires c κs = search needs
@@ -28,7 +28,7 @@ same-length c = search needs
 
 returns-2 : tie.Need-returns-2
 unfolding entryOf
-returns-2 c = simp (le-leb _ _ (c .before .before .before .before .before .if1 .left)) (cc)
+returns-2 c = let f = c .before .before .before .before .before in let a = f .before .before .args in simp (le-leb (a .col) (a .row) (f .if1 .left)) (cc)
 
 pub add-entry-spec : {M : Type 1} → statement M
 add-entry-spec =
