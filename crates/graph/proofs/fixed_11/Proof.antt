@@ -9,7 +9,7 @@ asked-requires : tie.Need-asked-requires
 asked-requires c κs = search needs
 
 returns : tie.Need-returns
-returns c = cc
+returns c = rw (c .asked .ensures, c .before .index-at .ensures)
 
 pub fixed-11-spec : {M : Type 1} → statement M
 fixed-11-spec = tie.close (tie.spec index-at-requires asked-requires returns)

@@ -13,7 +13,7 @@ asked-requires c κs = search needs
 
 returns : tie.Need-returns
 unfolding badDamping ratio ratio32 ofBits
-returns c = cc
+returns c = rw (c .asked .ensures, c .before .is-finite32 .ensures)
 
 pub row-19-spec : {M : Type 1} → statement M
 row-19-spec = tie.close (tie.spec is-finite32-requires asked-requires returns)
