@@ -1,0 +1,18 @@
+use borrow.Author.Needs.{needs}
+use Rattle.exports.proofs.put_quaternion.Statement.{statement}
+use Rattle.exports.proofs.put_quaternion.Tie as tie
+
+slice-aggregate-give32 : tie.Need-slice-aggregate-give32
+slice-aggregate-give32 c = search needs
+
+give32-requires : tie.Need-give32-requires
+give32-requires c κs = search needs
+
+same-length : tie.Need-same-length
+same-length c = search needs
+
+returns : tie.Need-returns
+returns c = c .before .before .give32 .ensures
+
+pub put-quaternion-spec : {M : Type 1} → statement M
+put-quaternion-spec = tie.close (tie.spec slice-aggregate-give32 give32-requires same-length returns)
