@@ -1,7 +1,10 @@
 //! Times the port beside the original, same process, same inputs, runs taken in turn: `bench [ROUNDS]`.
-//! Medians and their ratio are printed, with what each figure means.
+//! Medians and their ratio are printed, with what each figure means; exit 0 agree, 1 differ, 2 bad arguments.
 
+mod digits;
 mod graphs;
+mod inputs;
+mod numbers;
 mod timing;
 
 use std::process::ExitCode;
@@ -15,10 +18,8 @@ const ROUNDS: usize = 9;
 fn main() -> ExitCode {
     let arguments: Vec<String> = std::env::args().skip(1).collect();
     match rounds(&arguments) {
-        Ok(rounds) => {
-            bench(rounds);
-            ExitCode::SUCCESS
-        }
+        Ok(rounds) if bench(rounds) => ExitCode::SUCCESS,
+        Ok(_) => ExitCode::FAILURE,
         Err(line) => {
             eprintln!("bench [ROUNDS]: {line}");
             ExitCode::from(2)
@@ -44,26 +45,36 @@ assembly: the graph's checks, Jacobians, gradient and Hessian, once, at the firs
 whole run: checks to output. The original solves by the stand-in of faer, which is document 01's dense rule and no
   sparse solver: the ratio compares two programs under the same rules, and says nothing about the real faer.
 solves: one damped solve of the first system, by the stand-in's dense rule on one side and the port's solve on the other.
-The original makes its lists on the heap; the port writes into lent work, allocated before the clock starts.";
+The original makes its lists on the heap; the port writes into lent work, allocated before the clock starts.
+roots and narrowing: nanoseconds a call, of independent calls | of calls that each wait for the answer before.
+  digits is the function as it was before Wish 3 of document 02, a digit a turn, in Rust; processor is the one
+  instruction for it. None is inlined. Inputs: ordinary, 2^-20 to 2^20; subnormal and huge, the ends of the input's
+  format (for narrow those of f32, and past its top); hard, a root just below the middle of two guesses (sqrt64) or of
+  two answers (sqrt32), ties and their neighbours (narrow).";
 
-fn bench(rounds: usize) {
+/// Whether all that was compared agreed.
+fn bench(rounds: usize) -> bool {
     println!("{MEANING}\n");
     let cases = [
         ("ring of 50 views, 6 loop edges", ring_of_fifty()),
         ("64 free poses, 1,000 edges", thousand_edges()),
     ];
+    let mut agreed = true;
     for (name, case) in &cases {
+        let (answer, same) = answer_line(case);
+        agreed &= same;
         let sizes = format!("{} edges, n = {}", case.edge_count(), case.unknowns());
-        println!("{name} ({sizes}); {}", answer_line(case));
+        println!("{name} ({sizes}); {answer}");
         line("assembly", medians(rounds, &timing::Assembly::new(case)));
         line("solve", medians(rounds, &timing::Solve::new(case)));
         line("whole run", medians(rounds, &timing::Whole::new(case)));
         println!();
     }
+    numbers::bench(rounds) && agreed
 }
 
 /// The port's answer, and whether the original's poses have the same bits.
-fn answer_line(case: &Case) -> String {
+fn answer_line(case: &Case) -> (String, bool) {
     let whole = timing::Whole::new(case);
     let (number, answer) = whole.answer();
     let counts = format!(
@@ -71,9 +82,9 @@ fn answer_line(case: &Case) -> String {
         answer[2], answer[4], answer[5], answer[6], answer[7]
     );
     match (number, whole.agrees()) {
-        (0, true) => format!("{counts}, poses as the original's"),
-        (0, false) => format!("{counts}, POSES DIFFER FROM THE ORIGINAL'S"),
-        _ => format!("refused {number} at {}", answer[1]),
+        (0, true) => (format!("{counts}, poses as the original's"), true),
+        (0, false) => (format!("{counts}, POSES DIFFER FROM THE ORIGINAL'S"), false),
+        _ => (format!("refused {number} at {}", answer[1]), false),
     }
 }
 

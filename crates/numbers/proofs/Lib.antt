@@ -16,6 +16,7 @@ pub mod Word
 pub mod Read
 pub mod Narrowing
 pub mod Rooting
+pub mod Lengthening
 pub mod Cases
 pub mod Believe
 pub mod RootServes

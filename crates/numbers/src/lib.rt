@@ -4,10 +4,10 @@ ghost use mathlib.Core.Path.{_≡_};
 ghost use mathlib.Core.Bool.{Bool, false, cond};
 ghost use Prim.Native.Nat.{ℕ, suc, _+_, _*_, _/_, _%_, _^_, _≤_, _<_};
 ghost use lib.ListN.{getD};
-ghost use lib.Ieee.{Format, binary32, binary64, prec, emax, low, ones, ofBits, ofFields, nan};
+ghost use lib.Ieee.{Float, Format, binary32, binary64, prec, emax, low, ones, ofBits, ofFields, nan};
 ghost use lib.Ieee.Nearest.{closest};
 ghost use lib.Ieee.Scale.{finite};
-ghost use Rattle.numbers.specs.Numbers.{rounded, rooted, root};
+ghost use Rattle.numbers.specs.Numbers.{rounded, rooted, root, NearestRoot};
 ghost use Rattle.numbers.specs.Refusals.{orElse, ask};
 ghost use Rattle.numbers.specs.Walks.{mustBeFinite};
 
@@ -109,42 +109,37 @@ pub fn widen(x: f32) -> f64
     std::num::f32_to_f64_with_nan(x)
 }
 
-// q / 2^sh to the nearest whole number, a tie to the even one.
+// q / 2^sh to the nearest whole number, a tie to the even one. With no branch, since rounding up or down is a matter of
+// chance to the processor: half of 2^sh, less one where the quotient is even, carries into the quotient just where it
+// is to go up.
 fn nearest_shift(q: u64, sh: u64) -> u64
-    requires { ⌜ (0 < sh) × (sh < 64) ⌝ }
+    requires { ⌜ (0 < sh) × (sh < 64) × (q < 2 ^ 63) ⌝ }
     ensures { λ r. ⌜ r ≡ closest q (2 ^ sh) ⌝ }
 {
-    let w = q >> sh;
-    let rest = q & ((1u64 << sh) - 1);
+    let odd = (q >> sh) & 1;
     let half = 1u64 << (sh - 1);
-    if rest < half {
-        w
-    } else if half < rest {
-        w + 1
-    } else {
-        w + (w & 1)
-    }
+    (q + (half - 1) + odd) >> sh
 }
 
 // The bits, without the sign's, of the f32 nearest to the f64 of the bits `mag`, which has no sign and is no NaN.
 fn narrow_bits(mag: u64) -> u32
     requires { ⌜ mag ≤ 0x7ff0_0000_0000_0000 ⌝ }
-    ensures { λ r. ⌜ (r ≤ 0x7f80_0000) × ((s : Bool) → ofBits binary32 (cond s (2 ^ 31) 0 + r) ≡ rounded binary32 (ofFields binary64 s (mag / 2 ^ 52) (mag % 2 ^ 52))) ⌝ }
+    ensures { λ r. ⌜ (r ≤ 0x7f80_0000)
+        × ((s : Bool) → ofBits binary32 (cond s (2 ^ 31) 0 + r) ≡ rounded binary32 (ofFields binary64 s (mag / 2 ^ 52) (mag % 2 ^ 52))) ⌝ }
 {
     let e = mag >> 52;
+    if 897 <= e {
+        // From 2^-126 on, exponent and digits are rounded as one number: going up carries into the exponent, and to infinity.
+        if e < 1151 {
+            return nearest_shift(mag - 0x3800_0000_0000_0000, 29) as u32;
+        }
+        return 0x7f80_0000;
+    }
     if e < 873 {
         return 0;
     }
     let q = (mag & 0xf_ffff_ffff_ffff) + 0x10_0000_0000_0000;
-    if e < 897 {
-        return nearest_shift(q, 926 - e) as u32;
-    }
-    let n = ((e - 897) << 23) + nearest_shift(q, 29);
-    if n < 0x7f80_0000 {
-        n as u32
-    } else {
-        0x7f80_0000
-    }
+    nearest_shift(q, 926 - e) as u32
 }
 
 // x at the narrower format: the nearest f32, a tie to the even one, overflow to an infinity, a NaN to a NaN.
@@ -184,16 +179,15 @@ fn digit(r: Root, two: u64) -> Root
     }
 }
 
-// The root of m * 4^z and what is left, digit by digit.
-fn digits(m: u64, z: u64) -> Root
-    requires { ⌜ (m < 2 ^ 54) × (z ≤ 26) ⌝ }
-    ensures { λ r. ⌜ (r .q * r .q + r .rest ≡ m * 2 ^ (2 * z)) × (r .rest ≤ 2 * r .q) ⌝ }
+// The whole root of m and what is left, digit by digit.
+fn digits(m: u64) -> Root
+    requires { ⌜ m < 2 ^ 54 ⌝ }
+    ensures { λ r. ⌜ (r .q * r .q + r .rest ≡ m) × (r .rest ≤ 2 * r .q) ⌝ }
 {
-    let n = z + 27;
     let mut r = Root { q: 0, rest: 0 };
     let mut left = m;
     let mut d = 0u64;
-    while d < n {
+    while d < 27 {
         r = digit(r, left >> 52);
         left = (left & 0xf_ffff_ffff_ffff) << 2;
         d += 1;
@@ -201,22 +195,90 @@ fn digits(m: u64, z: u64) -> Root
     r
 }
 
-// The bits of the root of q * 2^a / 4^low, rounded, in a format of w + 1 digits, for q of w + 1 digits. z is how
-// many pairs of zeros are brought down after q's own digits, which are at most 54.
-fn root_bits(q: u64, a: u64, w: u64, z: u64) -> u64
-    requires { ⌜ (2 ^ w ≤ q) × (q < 2 * 2 ^ w) × (w ≤ 26 + z) × (2 * z ≤ w) × (w < a) × (a < 4092) ⌝ }
-    ensures { λ r. ⌜ ((f : Format) → prec f ≡ suc w → a < 4 * emax f → (r ≤ ones f * 2 ^ w)
-        × ((num den : ℕ) → 0 < den → num * 2 ^ (2 * low f) ≡ q * 2 ^ a * den → root f num den ≡ ofBits f r)) ⌝ }
+// The whole number n nearest to the root of n * n - n + over.
+struct NearRoot {
+    pub n: u64,
+    pub over: u64,
+}
+
+// The whole number nearest to the root of m, by its digits.
+fn nearest_by_digits(m: u64) -> NearRoot
+    requires { ⌜ (0 < m) × (m < 2 ^ 54) ⌝ }
+    ensures { λ r. ⌜ NearestRoot m (r .n) × (r .n * r .n + r .over ≡ m + r .n) ⌝ }
 {
-    let c = w + ((a + w) & 1);
-    let k = (a - c) >> 1;
-    let r = digits(q << (c - z * 2), z);
-    let high = k << w;
+    let r = digits(m);
     if r.q < r.rest {
-        high + (r.q + 1)
+        NearRoot {
+            n: r.q + 1,
+            over: r.rest - r.q,
+        }
     } else {
-        high + r.q
+        NearRoot {
+            n: r.q,
+            over: r.rest + r.q,
+        }
     }
+}
+
+// The whole number nearest to the root of m: the guess g where it passes the test, else digit by digit. g is nearest just
+// where m - (g * g - g) is above 0 and at most 2 * g; wrapped, what is below 1 is a huge number, so one comparison tells.
+fn nearest_root(m: u64, g: u64) -> NearRoot
+    requires { ⌜ (0 < m) × (m < 2 ^ 54) × (g ≤ 2 ^ 28) ⌝ }
+    ensures { λ r. ⌜ NearestRoot m (r .n) × (r .n * r .n + r .over ≡ m + r .n) ⌝ }
+{
+    let over = std::num::wrapping_sub_u64(m + g, g * g);
+    if std::num::wrapping_sub_u64(over, 1) < g * 2 {
+        return NearRoot { n: g, over: over };
+    }
+    nearest_by_digits(m)
+}
+
+// The whole number nearest to the root of m * 4^26, from that of m: 26 digits more by one division. With n and over as r has
+// them and c * 2 n + d = over * 2^26, the square of q = n 2^26 + c - 2^25 is m * 4^26 but for (c - 2^25)^2 and d * 2^26, which
+// are so small that q is nearest or one too small; the test tells.
+fn longer_root(r: NearRoot) -> u64
+    requires { ⌜ (2 ^ 26 ≤ r .n) × (r .n ≤ 2 ^ 27) × (r .over ≤ 2 * r .n) ⌝ }
+    ensures { λ q. ⌜ ((m : ℕ) → r .n * r .n + r .over ≡ m + r .n → NearestRoot (m * 2 ^ 52) q) ⌝ }
+{
+    let twice = r.n * 2;
+    let all = r.over << 26;
+    let c = all / twice;
+    let left = (all - c * twice + c) << 26;
+    let q = (r.n << 26) + c - 0x200_0000;
+    if c * c + q + 0x4_0000_0000_0000 < left {
+        q + 1
+    } else {
+        q
+    }
+}
+
+// A guess at the root of x that is better than the guess g: for a root r it is
+// r ((g + r)^6 + (g - r)^6) / ((g + r)^6 - (g - r)^6). Nothing is claimed of it.
+fn better_guess(x: f64, g: f64) -> f64 {
+    let s = g * g;
+    let u = s + x;
+    let sx = s * x;
+    let uu = u * u;
+    u * (uu + 12.0f64 * sx) / ((g + g) * (3.0f64 * uu + 4.0f64 * sx))
+}
+
+// A guess at the root of q * 2^odd * 2^52, for q of 53 digits. Nothing is claimed but that it has at most 54 digits: whoever asks
+// tests it. x is the bits of the number q * 2^odd / 2^52, from 1 up to 4; halved, with a little less than half the bits of 1
+// added, they are near those of its root. Of the better guess the fraction is kept and, once 2^53 is added, the last two bits of
+// the exponent, which are then the leading digit: 1 below 2, or 2 where rounding has led there.
+fn guess(q: u64, odd: u64) -> u64
+    requires { ⌜ (q < 2 ^ 53) × (odd ≤ 1) ⌝ }
+    ensures { λ r. ⌜ r < 2 ^ 54 ⌝ }
+{
+    let x = q + ((1022 + odd) << 52);
+    let g = better_guess(
+        f64::from_bits(x),
+        f64::from_bits((x >> 1) + 0x1ff7_a3be_a91d_9b1b),
+    );
+    if g != g {
+        return 0;
+    }
+    std::num::wrapping_add_u64(f64::to_bits(g), 0x20_0000_0000_0000) & 0x3f_ffff_ffff_ffff
 }
 
 // q * 2^a
@@ -240,21 +302,72 @@ fn lifted(t: u64, a: u64, w: u64) -> Scaled
     Scaled { q: q, a: a - i }
 }
 
-// The bits of the root of the number of the bits b, which is finite and above 0, in the format of w + 1 digits
-// whose smallest value is 2^-least.
-fn sqrt_bits(b: u64, w: u64, least: u64, z: u64) -> u64
-    requires { ⌜ (0 < b) × (w ≤ 26 + z) × (2 * z ≤ w) × (2 * w < least) × (b / 2 ^ w + least < 4092) ⌝ }
-    ensures { λ r. ⌜ ((f : Format) → prec f ≡ suc w → low f ≡ least → b / 2 ^ w < ones f → (r ≤ ones f * 2 ^ w)
-        × (rooted f (ofFields f false (b / 2 ^ w) (b % 2 ^ w)) ≡ ofBits f r)) ⌝ }
+// The number of the bits b, which is finite and above 0, in the format of w + 1 digits whose smallest value is 2^-least: as
+// q * 2^a / 4^least with a q of w + 1 digits.
+fn unpacked(b: u64, w: u64, least: u64) -> Scaled
+    requires { ⌜ (0 < b) × (w ≤ 52) × (2 * w < least) × (b / 2 ^ w + least < 4092) ⌝ }
+    ensures { λ s. ⌜ (2 ^ w ≤ s .q) × (s .q < 2 * 2 ^ w) × (w < s .a) × (s .a < 4092)
+        × ((f : Format) → prec f ≡ suc w → low f ≡ least → b / 2 ^ w < ones f → (s .a < 4 * emax f)
+        × ((y : Float) → ((num den : ℕ) → 0 < den → num * 2 ^ (2 * low f) ≡ s .q * 2 ^ s .a * den → root f num den ≡ y)
+        → rooted f (ofFields f false (b / 2 ^ w) (b % 2 ^ w)) ≡ y)) ⌝ }
 {
     let e = b >> w;
     let t = b & ((1u64 << w) - 1);
     if e == 0 {
-        let n = lifted(t, least, w);
-        root_bits(n.q, n.a, w, z)
+        lifted(t, least, w)
     } else {
-        root_bits(t + (1u64 << w), e - 1 + least, w, z)
+        Scaled {
+            q: t + (1u64 << w),
+            a: e - 1 + least,
+        }
     }
+}
+
+// A number's root before its digits are found: that of q * 2^odd * 2^w, with the exponent field k.
+struct Halving {
+    pub q: u64,
+    pub odd: u64,
+    pub k: u64,
+}
+
+// The number of the bits b, as above, with its exponent halved: whatever n is nearest to the root of q * 2^odd * 2^w, the root's
+// bits are k * 2^w + n.
+fn exponent_halved(b: u64, w: u64, least: u64) -> Halving
+    requires { ⌜ (0 < b) × (w ≤ 52) × (2 * w < least) × (b / 2 ^ w + least < 4092) ⌝ }
+    ensures { λ h. ⌜ (2 ^ w ≤ h .q) × (h .q < 2 * 2 ^ w) × (h .odd ≤ 1) × (h .k < 2046)
+        × ((f : Format) → prec f ≡ suc w → low f ≡ least → b / 2 ^ w < ones f → (n : ℕ) → NearestRoot (h .q * 2 ^ h .odd * 2 ^ w) n
+        → (h .k * 2 ^ w + n ≤ ones f * 2 ^ w) × (rooted f (ofFields f false (b / 2 ^ w) (b % 2 ^ w)) ≡ ofBits f (h .k * 2 ^ w + n))) ⌝ }
+{
+    let s = unpacked(b, w, least);
+    let odd = (s.a + w) & 1;
+    Halving {
+        q: s.q,
+        odd: odd,
+        k: (s.a - w - odd) >> 1,
+    }
+}
+
+// The bits of the root of the f64 of the bits b, which is finite and above 0. Its 53 digits are more than the guess has: 27 of
+// them by the guess, the others by the division.
+fn sqrt64_bits(b: u64) -> u64
+    requires { ⌜ (0 < b) × (b < 0x7ff0_0000_0000_0000) ⌝ }
+    ensures { λ r. ⌜ (r ≤ 0x7ff0_0000_0000_0000) × (rooted binary64 (ofFields binary64 false (b / 2 ^ 52) (b % 2 ^ 52)) ≡ ofBits binary64 r) ⌝ }
+{
+    let h = exponent_halved(b, 52, 1074);
+    let g = (guess(h.q, h.odd) + 0x200_0000) >> 26;
+    let r = nearest_root(h.q << h.odd, g);
+    (h.k << 52) + longer_root(r)
+}
+
+// The same of an f32, whose 24 digits the guess has.
+fn sqrt32_bits(b: u64) -> u64
+    requires { ⌜ (0 < b) × (b < 0x7f80_0000) ⌝ }
+    ensures { λ r. ⌜ (r ≤ 0x7f80_0000) × (rooted binary32 (ofFields binary32 false (b / 2 ^ 23) (b % 2 ^ 23)) ≡ ofBits binary32 r) ⌝ }
+{
+    let h = exponent_halved(b, 23, 149);
+    let g = (guess(h.q << 29, h.odd) + 0x1000_0000) >> 29;
+    let r = nearest_root(h.q << (23 + h.odd), g);
+    (h.k << 23) + r.n
 }
 
 // The root of x, rounded once; a NaN below 0.
@@ -265,16 +378,13 @@ pub fn sqrt64(x: f64) -> f64
         return x;
     }
     let b: u64 = f64::to_bits(x);
-    if (b & 0x7fff_ffff_ffff_ffff) == 0 {
-        return x;
+    if (0 < b) & (b < 0x7ff0_0000_0000_0000) {
+        return f64::from_bits(sqrt64_bits(b));
     }
-    if 0x7fff_ffff_ffff_ffff < b {
+    if 0x8000_0000_0000_0000 < b {
         return 0.0f64 / 0.0f64;
     }
-    if 0x7ff0_0000_0000_0000 <= b {
-        return x;
-    }
-    f64::from_bits(sqrt_bits(b, 52, 1074, 26))
+    x
 }
 
 pub fn sqrt32(x: f32) -> f32
@@ -284,14 +394,11 @@ pub fn sqrt32(x: f32) -> f32
         return x;
     }
     let b: u32 = f32::to_bits(x);
-    if (b & 0x7fff_ffff) == 0 {
-        return x;
+    if (0 < b) & (b < 0x7f80_0000) {
+        return f32::from_bits(sqrt32_bits(b as u64) as u32);
     }
-    if 0x7fff_ffff < b {
+    if 0x8000_0000 < b {
         return 0.0f32 / 0.0f32;
     }
-    if 0x7f80_0000 <= b {
-        return x;
-    }
-    f32::from_bits(sqrt_bits(b as u64, 23, 149, 0) as u32)
+    x
 }

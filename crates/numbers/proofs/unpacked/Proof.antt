@@ -1,0 +1,126 @@
+-- `numbers::unpacked` meets its contract: the fields are a fraction, with the leading digit put in its place. Assumes nothing.
+use mathlib.Core.Path.{_≡_, sym, ap, _∙_}
+use Prim.Native.Nat.{ℕ, suc, _+_, _-_, _*_, _/_, _%_, _^_, _≤_, _<_}
+use mathlib.Core.Bool.{false}
+use native.Mathlib.Nat.{add-comm, lt-of-lt-of-le, mod-lt, mul-one, mul-assoc, mul-pos, le-add-right}
+use native.Mathlib.Omega.{arith}
+use lib.Bits.{bitAnd}
+use lib.Pow.{pow-add, pow-pos, pow-mono}
+use lib.Ieee.{prec, emax, low, hid, ofFields}
+use lib.Ieee.Fits.{two, reach}
+use borrow.Author.Needs.{needs}
+use Rattle.numbers.specs.Numbers.{rooted}
+use Rattle.numbers.proofs.Word.{one-shl, low-bits, rest-pos}
+use Rattle.numbers.proofs.Read.{read-low, read-high}
+use Rattle.numbers.proofs.Rooting.{hid-is, rooted-at}
+use Rattle.numbers.proofs.unpacked.Statement.{statement}
+use Rattle.numbers.proofs.unpacked.Tie as tie
+
+shr-e : tie.Need-shr-e
+shr-e c = search needs
+
+shl-t : tie.Need-shl-t
+shl-t c = search needs
+
+-- 1 << w, and the digits
+unit : (c : tie.Start) → 1 * 2 ^ c .args .w % 2 ^ 64 ≡ 2 ^ c .args .w
+unit c = one-shl (c .args .w) (omega arith)
+
+cut-off : (c : tie.Start) → bitAnd (c .args .b) (1 * 2 ^ c .args .w % 2 ^ 64 - 1) ≡ c .args .b % 2 ^ c .args .w
+cut-off c = low-bits (c .args .b) (c .args .w) (omega arith)
+
+small : (c : tie.Start) → 2 ^ c .args .w ≤ 2 ^ 52
+small c = pow-mono (c .pre .1)
+
+below : (c : tie.Start) → c .args .b % 2 ^ c .args .w < 2 ^ c .args .w
+below c = mod-lt (c .args .b) (pow-pos (c .args .w))
+
+sub-t : tie.Need-sub-t
+sub-t c = rw (unit c) (pow-pos (c .args .w))
+
+lifted-requires : tie.Need-lifted-requires
+lifted-requires c κs =
+    let s = c .before in
+    let p = rest-pos (2 ^ s .args .w) (s .args .b) (s .pre .0) (c .if1 .taken) in (
+      omega (arith, cut-off s, p),
+      omega (arith, cut-off s, below s),
+      omega arith,
+      omega arith,
+    )
+
+shl-t10 : tie.Need-shl-t10
+shl-t10 c = search needs
+
+add-t11 : tie.Need-add-t11
+add-t11 c = omega (arith, cut-off (c .before), unit (c .before), below (c .before), small (c .before))
+
+sub-t12 : tie.Need-sub-t12
+sub-t12 c = search needs
+
+add-t13 : tie.Need-add-t13
+add-t13 c = search needs
+
+positive : (x : ℕ) → (x ≡ 0 → ⊥) → 0 < x
+positive x h = omega arith
+
+-- the exponent stays in the format's range
+low-small : (p e a l : ℕ) → 2 ≤ p → p ≤ suc e → l ≡ e + p - 2 → a ≤ l → a < 4 * e
+low-small p e a l P R L A = omega arith
+
+high-small : (p e x l : ℕ) → 2 ≤ p → p ≤ suc e → l ≡ e + p - 2 → 0 < x → x < 2 * e + 1 → x - 1 + l < 4 * e
+high-small p e x l P R L X O = omega arith
+
+returns : tie.Need-returns
+returns c =
+    let s = c .before .before in
+    let b = s .args .b in
+    let w = s .args .w in
+    let t = b % 2 ^ w in
+    let z = c .before .if1 .taken in
+    let n = c .lifted .result in (
+      c .lifted .ensures .1,
+      c .lifted .ensures .2,
+      omega arith,
+      omega arith,
+      λ f P L O. (
+        low-small (prec f) (emax f) (n .a) (s .args .least) (two f) (reach f) (sym L) (c .lifted .ensures .3),
+        λ y g.
+            ap (λ (x : ℕ). rooted f (ofFields f false x t)) z
+            ∙ rooted-at f (ofFields f false 0 t) (t * 2 ^ 0) y (mul-pos (rest-pos (2 ^ w) b (s .pre .0) z) (pow-pos 0)) (read-low f false t)
+            (λ num den D e. g num den D
+            (e
+            ∙ ap (λ (x : ℕ). x * 2 ^ low f * den) (mul-one t)
+            ∙ ap (λ (x : ℕ). x * den) (ap (λ (x : ℕ). t * 2 ^ x) L ∙ ap (λ (x : ℕ). x * 2 ^ s .args .least) (sym (cut-off s)) ∙ sym (c .lifted .ensures .0)))),
+      ),
+    )
+
+returns-2 : tie.Need-returns-2
+returns-2 c =
+    let s = c .before in
+    let b = s .args .b in
+    let w = s .args .w in
+    let t = b % 2 ^ w in
+    let x = b / 2 ^ w in
+    let p = positive x (c .if1 .left) in (
+      omega (arith, unit s),
+      omega (arith, cut-off s, unit s, below s),
+      omega (arith, p),
+      omega (arith, p),
+      λ f P L O. (
+        high-small (prec f) (emax f) x (s .args .least) (two f) (reach f) (sym L) p O,
+        λ y g.
+            rooted-at f (ofFields f false x t) ((hid f + t) * 2 ^ (x - 1)) y
+            (mul-pos (lt-of-lt-of-le (pow-pos (prec f - 1)) (le-add-right (hid f) t)) (pow-pos (x - 1)))
+            (read-high f false x t p O)
+            (λ num den D e. g num den D
+            (e
+            ∙ ap (λ (v : ℕ). v * den)
+            (mul-assoc (hid f + t) (2 ^ (x - 1)) (2 ^ low f)
+            ∙ ap (λ (v : ℕ). (hid f + t) * v) (ap (λ (v : ℕ). 2 ^ (x - 1) * 2 ^ v) L ∙ sym (pow-add 2 (x - 1) (s .args .least)))
+            ∙ ap (λ (v : ℕ). v * 2 ^ (x - 1 + s .args .least))
+            (add-comm (hid f) t ∙ ap (λ (v : ℕ). t + v) (hid-is f w P ∙ sym (unit s)) ∙ ap (λ (v : ℕ). v + 1 * 2 ^ w % 2 ^ 64) (sym (cut-off s)))))),
+      ),
+    )
+
+pub unpacked-spec : {M : Type 1} → statement M
+unpacked-spec = tie.close (tie.spec shr-e shl-t sub-t lifted-requires shl-t10 add-t11 sub-t12 add-t13 returns returns-2)
