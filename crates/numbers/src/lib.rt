@@ -130,8 +130,9 @@ fn narrow_bits(mag: u64) -> u32
     let e = mag >> 52;
     if 897 <= e {
         // From 2^-126 on, exponent and digits are rounded as one number: going up carries into the exponent, and to infinity.
-        if e < 1151 {
-            return nearest_shift(mag - 0x3800_0000_0000_0000, 29) as u32;
+        let n = nearest_shift(mag - 0x3800_0000_0000_0000, 29);
+        if n < 0x7f80_0000 {
+            return n as u32;
         }
         return 0x7f80_0000;
     }
