@@ -1,4 +1,4 @@
-//! The roots and the narrowing as they were before Wish 3 of document 02, a digit a turn, transcribed from the port.
+//! The roots, a digit a turn, and the narrowing as they were before Wish 3 of document 02, transcribed from the port.
 //! They are kept here only to measure against.
 #![allow(clippy::eq_op, clippy::zero_divided_by_zero)]
 

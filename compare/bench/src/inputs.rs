@@ -1,5 +1,7 @@
 //! The inputs that the roots and the narrowing are timed on, four kinds of them.
 
+use std::sync::LazyLock;
+
 use restated::random::Random;
 
 #[derive(Copy, Clone)]
@@ -88,24 +90,48 @@ pub fn to_root<N: Number>(
     }
 }
 
+/// The port's guess at the root of q * 2^odd * 2^52, for q of 53 digits: `guess` of its crate numbers, transcribed so that
+/// the inputs can be told for which it fails and the digits answer. Those are the hard ones.
+fn guess(q: u64, odd: u64) -> u64 {
+    let bits = q + ((1022 + odd) << 52);
+    let x = f64::from_bits(bits);
+    let g = f64::from_bits((bits >> 1) + 0x1ff7_a3be_a91d_9b1b);
+    let s = g * g;
+    let u = s + x;
+    let (sx, uu) = (s * x, u * u);
+    let better = u * (uu + 12.0 * sx) / ((g + g) * (3.0 * uu + 4.0 * sx));
+    better.to_bits().wrapping_add(1 << 53) & ((1 << 54) - 1)
+}
+
+/// Whether the guess, less so many digits, is not the whole number nearest to the root of m.
+fn fails(m: u64, guess: u64, digits: u32) -> bool {
+    let n = (guess + (1 << (digits - 1))) >> digits;
+    m + n <= n * n || n * n + n < m
+}
+
 /// m * 4^k, for a whole m whose root lies just below the half between two whole numbers of 27 digits.
 pub fn hard64(random: &mut Random) -> Option<f64> {
     let a = random.between(1 << 26, (1 << 27) - 1) as u64;
     let m = a * a + a - random.below(64) as u64;
-    let held = if m < 1 << 53 { m } else { m & !1 };
+    let odd = m >> 53;
+    let q = m >> odd;
     let exponent = 2 * random.between(0, 19) as i32 - 72;
     let power = f64::from_bits(((1023 + exponent) as u64) << 52);
-    (1 << 52..1 << 54)
-        .contains(&m)
-        .then_some(held as f64 * power)
+    let hard = odd < 2 && fails(q << odd, guess(q, odd), 26);
+    hard.then_some((q << odd) as f64 * power)
 }
 
-/// An f32 whose root lies just below the middle between two f32.
+/// The significands of the hard f32, each with the parity of its exponent.
+static HARD32: LazyLock<Vec<(u64, u64)>> = LazyLock::new(|| {
+    let all = (1 << 23..1 << 24).flat_map(|q: u64| [(q, 0), (q, 1)]);
+    all.filter(|&(q, odd)| fails(q << (23 + odd), guess(q << 29, odd), 29))
+        .collect()
+});
+
 pub fn hard32(random: &mut Random) -> Option<f32> {
-    let x: f32 = sized(random, -20, 19);
-    let past = f64::from(x).sqrt().to_bits() & 0x1fff_ffff;
-    let part = past as f64 / f64::from(1 << 29);
-    (0.498..0.5).contains(&part).then_some(x)
+    let (q, odd) = *HARD32.get(random.below(HARD32.len().max(1)))?;
+    let field = 127 - 20 + odd + 2 * random.below(20) as u64;
+    Some(f32::from_bits(((field - 1) << 23) as u32 + q as u32))
 }
 
 /// A try at a number to narrow, of either sign.

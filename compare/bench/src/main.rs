@@ -47,10 +47,10 @@ whole run: checks to output. The original solves by the stand-in of faer, which 
 solves: one damped solve of the first system, by the stand-in's dense rule on one side and the port's solve on the other.
 The original makes its lists on the heap; the port writes into lent work, allocated before the clock starts.
 roots and narrowing: nanoseconds a call, of independent calls | of calls that each wait for the answer before.
-  digits is the function as it was before Wish 3 of document 02, a digit a turn, in Rust; processor is the one
-  instruction for it. None is inlined. Inputs: ordinary, 2^-20 to 2^20; subnormal and huge, the ends of the input's
-  format (for narrow those of f32, and past its top); hard, a root just below the middle of two guesses (sqrt64) or of
-  two answers (sqrt32), ties and their neighbours (narrow).";
+  digits is the function as it was before Wish 3 of document 02, in Rust: a root a digit a turn, and narrow with
+  branches, which the port's compiler left out; processor is the one instruction for it. None is inlined. Inputs:
+  ordinary, 2^-20 to 2^20; subnormal and huge, the ends of the input's format (for narrow those of f32, and past its
+  top); hard, roots for which the port's guess fails and its digits answer, ties and their neighbours (narrow).";
 
 /// Whether all that was compared agreed.
 fn bench(rounds: usize) -> bool {

@@ -1,4 +1,4 @@
-//! Times the port's roots and narrowing beside the same a digit a turn and beside the processor's own.
+//! Times the port's roots and narrowing beside what they were before Wish 3 of document 02 and beside the processor's own.
 
 use std::hint::black_box;
 use std::iter::repeat_with;
@@ -11,8 +11,8 @@ use crate::timing::{median, timed};
 
 pub const INPUTS: usize = 1 << 14;
 
-/// Tries at a table: of the rarest inputs, the hard ones of sqrt32, two in a thousand tries are kept.
-const TRIES: usize = 1 << 24;
+/// Tries at a table: of every kind most are kept.
+const TRIES: usize = 1 << 16;
 
 /// A function in its three forms, and a try at an input of a kind.
 pub trait Function {
@@ -303,9 +303,9 @@ mod tests {
         let half = 1 << 25;
         assert!(all::<Sqrt64>(Kind::Hard, |x| (half - 64..=half)
             .contains(&past(x.sqrt(), 26))));
-        let (low, high) = (0.498 * 2f64.powi(29), 0.5 * 2f64.powi(29));
-        let fits = |x: f32| (low..high).contains(&(past(f64::from(x).sqrt(), 29) as f64));
-        assert!(all::<Sqrt32>(Kind::Hard, fits));
+        let half = 1 << 28;
+        assert!(all::<Sqrt32>(Kind::Hard, |x| (half - (1 << 21)..=half)
+            .contains(&past(f64::from(x).sqrt(), 29))));
         assert!(all::<Narrow>(Kind::Hard, |x| (0x0fff_ffff..=0x1000_0001)
             .contains(&past(x, 29))));
     }

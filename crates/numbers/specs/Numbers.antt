@@ -1,7 +1,7 @@
 -- The words of the contracts of `numbers`: a float rounded to a format, and its square root rounded to a format.
 -- Both stand over the values of `lib.Ieee`, and mirror its `round`. Definitions only.
 use Prim.Native.Nat.{ℕ, zero, suc, _+_, _-_, _*_, _/_, _^_, _≤_, _<_, compare}
-use mathlib.Core.Bool.{Bool, true, false, cond}
+use mathlib.Core.Bool.{false, cond}
 use lib.Dec.{leb}
 use lib.Ieee.{Float, nan, inf, fin, Format, binary32, binary64, prec, low, up, down, size, nearest, units, round}
 
@@ -35,11 +35,6 @@ root f num den =
     let q = wholeRoot (prec f) (n / u) in
     units f false (nearest q (compare (4 * n) ((2 * q + 1) * (2 * q + 1) * u))) k
 
--- r is the whole number nearest to √n, for an n above 0: n lies between the squares of r - 1 / 2 and r + 1 / 2, which are
--- no whole numbers, so that there are no ties
-abbrev pub NearestRoot : ℕ → ℕ → Type 0
-NearestRoot n r = (r * r < n + r) × (n ≤ r * r + r)
-
 -- the root of x, rounded once: √-0 is -0, and below 0 there is none
 unfoldable pub rooted : Format → Float → Float
 unfolding root
@@ -59,3 +54,10 @@ root32 x = rooted binary32 x
 
 abbrev pub root64 : Float → Float
 root64 x = rooted binary64 x
+
+-- ---- for the functions behind the roots; nothing above rests on it
+
+-- r is the whole number nearest to √n, for an n above 0: n lies between the squares of r - 1 / 2 and r + 1 / 2, which are
+-- no whole numbers, so that there are no ties
+abbrev pub NearestRoot : ℕ → ℕ → Type 0
+NearestRoot n r = (r * r < n + r) × (n ≤ r * r + r)

@@ -4,10 +4,11 @@ ghost use mathlib.Core.Path.{_≡_};
 ghost use mathlib.Core.Bool.{Bool, false, cond};
 ghost use Prim.Native.Nat.{ℕ, suc, _+_, _*_, _/_, _%_, _^_, _≤_, _<_};
 ghost use lib.ListN.{getD};
-ghost use lib.Ieee.{Float, Format, binary32, binary64, prec, emax, low, ones, ofBits, ofFields, nan};
+ghost use lib.Ieee.{Format, binary32, binary64, prec, emax, low, ones, ofBits, ofFields, nan};
 ghost use lib.Ieee.Nearest.{closest};
+ghost use lib.Ieee.Exact.{HasValue};
 ghost use lib.Ieee.Scale.{finite};
-ghost use Rattle.numbers.specs.Numbers.{rounded, rooted, root, NearestRoot};
+ghost use Rattle.numbers.specs.Numbers.{rounded, rooted, NearestRoot};
 ghost use Rattle.numbers.specs.Refusals.{orElse, ask};
 ghost use Rattle.numbers.specs.Walks.{mustBeFinite};
 
@@ -244,9 +245,9 @@ fn longer_root(r: NearRoot) -> u64
     let twice = r.n * 2;
     let all = r.over << 26;
     let c = all / twice;
-    let left = (all - c * twice + c) << 26;
+    let excess = (all - c * twice + c) << 26;
     let q = (r.n << 26) + c - 0x200_0000;
-    if c * c + q + 0x4_0000_0000_0000 < left {
+    if c * c + q + 0x4_0000_0000_0000 < excess {
         q + 1
     } else {
         q
@@ -309,8 +310,7 @@ fn unpacked(b: u64, w: u64, least: u64) -> Scaled
     requires { ⌜ (0 < b) × (w ≤ 52) × (2 * w < least) × (b / 2 ^ w + least < 4092) ⌝ }
     ensures { λ s. ⌜ (2 ^ w ≤ s .q) × (s .q < 2 * 2 ^ w) × (w < s .a) × (s .a < 4092)
         × ((f : Format) → prec f ≡ suc w → low f ≡ least → b / 2 ^ w < ones f → (s .a < 4 * emax f)
-        × ((y : Float) → ((num den : ℕ) → 0 < den → num * 2 ^ (2 * low f) ≡ s .q * 2 ^ s .a * den → root f num den ≡ y)
-        → rooted f (ofFields f false (b / 2 ^ w) (b % 2 ^ w)) ≡ y)) ⌝ }
+        × HasValue (ofFields f false (b / 2 ^ w) (b % 2 ^ w)) false (s .q * 2 ^ s .a) (2 ^ (2 * least))) ⌝ }
 {
     let e = b >> w;
     let t = b & ((1u64 << w) - 1);
@@ -324,7 +324,8 @@ fn unpacked(b: u64, w: u64, least: u64) -> Scaled
     }
 }
 
-// A number's root before its digits are found: that of q * 2^odd * 2^w, with the exponent field k.
+// A number's root before its digits are found: its bits are k * 2^w and the digits of the root of q * 2^odd * 2^w, the leading
+// one among them.
 struct Halving {
     pub q: u64,
     pub odd: u64,
@@ -348,8 +349,8 @@ fn exponent_halved(b: u64, w: u64, least: u64) -> Halving
     }
 }
 
-// The bits of the root of the f64 of the bits b, which is finite and above 0. Its 53 digits are more than the guess has: 27 of
-// them by the guess, the others by the division.
+// The bits of the root of the f64 of the bits b, which is finite and above 0. Its 53 digits are too many to be tested at once: 27
+// are guessed and tested, the others found by division.
 fn sqrt64_bits(b: u64) -> u64
     requires { ⌜ (0 < b) × (b < 0x7ff0_0000_0000_0000) ⌝ }
     ensures { λ r. ⌜ (r ≤ 0x7ff0_0000_0000_0000) × (rooted binary64 (ofFields binary64 false (b / 2 ^ 52) (b % 2 ^ 52)) ≡ ofBits binary64 r) ⌝ }
@@ -360,7 +361,7 @@ fn sqrt64_bits(b: u64) -> u64
     (h.k << 52) + longer_root(r)
 }
 
-// The same of an f32, whose 24 digits the guess has.
+// The same of an f32, whose 24 digits are guessed and tested at once.
 fn sqrt32_bits(b: u64) -> u64
     requires { ⌜ (0 < b) × (b < 0x7f80_0000) ⌝ }
     ensures { λ r. ⌜ (r ≤ 0x7f80_0000) × (rooted binary32 (ofFields binary32 false (b / 2 ^ 23) (b % 2 ^ 23)) ≡ ofBits binary32 r) ⌝ }

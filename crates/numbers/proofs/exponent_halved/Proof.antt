@@ -3,14 +3,14 @@
 use mathlib.Core.Path.{_≡_, sym, ap, _∙_, subst}
 use Prim.Native.Nat.{ℕ, suc, _+_, _-_, _*_, _/_, _%_, _^_, _≤_, _<_}
 use mathlib.Core.Bool.{false}
-use native.Mathlib.Nat.{le-trans, le-of-eq, lt-of-lt-of-le, mul-comm, mul-assoc, mul-one, mul-le-mul-left, mul-le-mul-right, mul-lt-mul-of-pos-right, pow-succ'}
+use native.Mathlib.Nat.{le-trans, le-of-eq, lt-of-lt-of-le, mul-comm, mul-assoc, mul-one, mul-pos, mul-le-mul-left, mul-le-mul-right, mul-lt-mul-of-pos-right, pow-succ'}
 use native.Mathlib.Omega.{arith}
 use lib.Bits.{bitAnd, and-mask}
 use lib.Pow.{pow-add, pow-pos, pow-mono}
-use lib.Ieee.{Format, prec, emax, low, ones, hid, units, ofBits}
+use lib.Ieee.{Format, prec, emax, low, ones, hid, units, ofBits, ofFields}
 use borrow.Author.Needs.{needs}
 use Rattle.numbers.specs.Numbers.{root, NearestRoot}
-use Rattle.numbers.proofs.Rooting.{near-le, near-ge, root-nearest, hid-is, bits-le, plain-bits}
+use Rattle.numbers.proofs.Rooting.{near-le, near-ge, root-nearest, hid-is, bits-le, plain-bits, rooted-at}
 use Rattle.numbers.proofs.exponent_halved.Statement.{statement}
 use Rattle.numbers.proofs.exponent_halved.Tie as tie
 
@@ -130,7 +130,9 @@ returns c =
       λ f P L O n N.
           let r = k .4 f P L O in (
             bound q a w (k .0) (k .1) (k .2) n N f P (r .0),
-            r .1 (ofBits f (half a w * 2 ^ w + n)) (λ num den D M. rooted-bits q a w (k .0) (k .1) (k .2) n N f P (r .0) num den D M),
+            rooted-at f (ofFields f false (s .args .b / 2 ^ w) (s .args .b % 2 ^ w)) (q * 2 ^ a) (2 ^ (2 * s .args .least)) (ofBits f (half a w * 2 ^ w + n))
+                (mul-pos (lt-of-lt-of-le (pow-pos w) (k .0)) (pow-pos a)) (r .1)
+                (λ num den D M. rooted-bits q a w (k .0) (k .1) (k .2) n N f P (r .0) num den D (ap (λ (x : ℕ). num * 2 ^ (2 * x)) L ∙ M)),
           ),
     )
 

@@ -29,8 +29,8 @@ module _ (n over : ℕ) (L : 2 ^ 26 ≤ n) (U : n ≤ 2 ^ 27) (O : over ≤ 2 * 
   abbrev d : ℕ
   d = all over - c * (n * 2)
 
-  abbrev left : ℕ
-  left = (d + c) * 2 ^ 26 % 2 ^ 64
+  abbrev excess : ℕ
+  excess = (d + c) * 2 ^ 26 % 2 ^ 64
 
   abbrev q : ℕ
   q = n * 2 ^ 26 % 2 ^ 64 + c - 0x200_0000
@@ -57,14 +57,14 @@ module _ (n over : ℕ) (L : 2 ^ 26 ≤ n) (U : n ≤ 2 ^ 27) (O : over ≤ 2 * 
   q-is : q + 2 ^ 25 ≡ n * (2 * 2 ^ 25) + c
   q-is = omega arith
 
-  left-is : left ≡ (d + c) * (2 * 2 ^ 25)
-  left-is = omega (arith, d-lt, c-small)
+  excess-is : excess ≡ (d + c) * (2 * 2 ^ 25)
+  excess-is = omega (arith, d-lt, c-small)
 
-  down : left ≤ c * c + q + 0x4_0000_0000_0000 → (m : ℕ) → n * n + over ≡ m + n → NearestRoot (m * 2 ^ 52) q
-  down h m x = longer-stays n over (2 ^ 25) c d (omega arith) L O parts d-lt m q q-is x (omega (arith, left-is))
+  down : excess ≤ c * c + q + 0x4_0000_0000_0000 → (m : ℕ) → n * n + over ≡ m + n → NearestRoot (m * 2 ^ 52) q
+  down h m x = longer-stays n over (2 ^ 25) c d (omega arith) L O parts d-lt m q q-is x (omega (arith, excess-is))
 
-  up : c * c + q + 0x4_0000_0000_0000 < left → (m : ℕ) → n * n + over ≡ m + n → NearestRoot (m * 2 ^ 52) (q + 1)
-  up h m x = longer-up n over (2 ^ 25) c d (omega arith) L O parts d-lt m q q-is x (omega (arith, left-is))
+  up : c * c + q + 0x4_0000_0000_0000 < excess → (m : ℕ) → n * n + over ≡ m + n → NearestRoot (m * 2 ^ 52) (q + 1)
+  up h m x = longer-up n over (2 ^ 25) c d (omega arith) L O parts d-lt m q q-is x (omega (arith, excess-is))
 
 -- in terms of what the function is called with
 sizes : (s : tie.Start) → Sizes (s .args .r .n) (s .args .r .over)
@@ -76,14 +76,14 @@ mul-twice c = omega arith
 div-c : tie.Need-div-c
 div-c c = omega arith
 
-mul-left : tie.Need-mul-left
-mul-left c = let k = sizes (c .before .before) in omega arith
+mul-excess : tie.Need-mul-excess
+mul-excess c = let k = sizes (c .before .before) in omega arith
 
-sub-left : tie.Need-sub-left
-sub-left c = sizes (c .before .before) .back
+sub-excess : tie.Need-sub-excess
+sub-excess c = sizes (c .before .before) .back
 
-add-left : tie.Need-add-left
-add-left c = let k = sizes (c .before .before) in omega arith
+add-excess : tie.Need-add-excess
+add-excess c = let k = sizes (c .before .before) in omega arith
 
 add-q : tie.Need-add-q
 add-q c = let k = sizes (c .before .before .before) in omega arith
@@ -119,9 +119,9 @@ longer-root-spec =
     (tie.spec
     mul-twice
     div-c
-    mul-left
-    sub-left
-    add-left
+    mul-excess
+    sub-excess
+    add-excess
     add-q
     sub-q
     mul-if1

@@ -1,18 +1,18 @@
 -- `numbers::unpacked` meets its contract: the fields are a fraction, with the leading digit put in its place. Assumes nothing.
-use mathlib.Core.Path.{_≡_, sym, ap, _∙_}
+use mathlib.Core.Path.{_≡_, sym, ap, _∙_, subst}
 use Prim.Native.Nat.{ℕ, suc, _+_, _-_, _*_, _/_, _%_, _^_, _≤_, _<_}
 use mathlib.Core.Bool.{false}
-use native.Mathlib.Nat.{add-comm, lt-of-lt-of-le, mod-lt, mul-one, mul-assoc, mul-pos, le-add-right}
+use native.Mathlib.Nat.{zero-add, add-comm, mod-lt, mul-assoc, mul-right-comm}
 use native.Mathlib.Omega.{arith}
 use lib.Bits.{bitAnd}
 use lib.Pow.{pow-add, pow-pos, pow-mono}
-use lib.Ieee.{prec, emax, low, hid, ofFields}
+use lib.Ieee.{Float, nan, inf, fin, Format, prec, emax, low, up, down, hid, ofFields}
 use lib.Ieee.Fits.{two, reach}
+use lib.Ieee.Exact.{HasValue}
 use borrow.Author.Needs.{needs}
-use Rattle.numbers.specs.Numbers.{rooted}
 use Rattle.numbers.proofs.Word.{one-shl, low-bits, rest-pos}
 use Rattle.numbers.proofs.Read.{read-low, read-high}
-use Rattle.numbers.proofs.Rooting.{hid-is, rooted-at}
+use Rattle.numbers.proofs.Rooting.{square-pow, hid-is}
 use Rattle.numbers.proofs.unpacked.Statement.{statement}
 use Rattle.numbers.proofs.unpacked.Tie as tie
 
@@ -70,55 +70,57 @@ low-small p e a l P R L A = omega arith
 high-small : (p e x l : ℕ) → 2 ≤ p → p ≤ suc e → l ≡ e + p - 2 → 0 < x → x < 2 * e + 1 → x - 1 + l < 4 * e
 high-small p e x l P R L X O = omega arith
 
+-- n / c is n * k / (c * k)
+scaled-value : (v : Float) (n c k : ℕ) → HasValue v false n c → HasValue v false (n * k) (c * k)
+scaled-value nan n c k h = absurd h
+scaled-value (inf s) n c k h = absurd h
+scaled-value (fin s m e) n c k h = (h .0, sym (mul-assoc (m * up e) c k) ∙ ap (λ (x : ℕ). x * k) (h .1) ∙ mul-right-comm n (down e) k)
+
+-- a value in smallest ones, as a fraction of their square
+squared : (f : Format) (v : Float) (least q i : ℕ) → low f ≡ least → HasValue v false (q * 2 ^ i) (2 ^ low f)
+    → HasValue v false (q * 2 ^ (i + least)) (2 ^ (2 * least))
+squared f v least q i L h =
+    subst (λ (x : ℕ). HasValue v false x (2 ^ (2 * least))) (mul-assoc q (2 ^ i) (2 ^ least) ∙ ap (λ (x : ℕ). q * x) (sym (pow-add 2 i least)))
+    (subst (HasValue v false (q * 2 ^ i * 2 ^ least)) (square-pow least)
+    (scaled-value v (q * 2 ^ i) (2 ^ least) (2 ^ least) (subst (λ (x : ℕ). HasValue v false (q * 2 ^ i) (2 ^ x)) L h)))
+
 returns : tie.Need-returns
 returns c =
     let s = c .before .before in
-    let b = s .args .b in
     let w = s .args .w in
-    let t = b % 2 ^ w in
-    let z = c .before .if1 .taken in
+    let t = s .args .b % 2 ^ w in
+    let l = s .args .least in
     let n = c .lifted .result in (
       c .lifted .ensures .1,
       c .lifted .ensures .2,
       omega arith,
       omega arith,
       λ f P L O. (
-        low-small (prec f) (emax f) (n .a) (s .args .least) (two f) (reach f) (sym L) (c .lifted .ensures .3),
-        λ y g.
-            ap (λ (x : ℕ). rooted f (ofFields f false x t)) z
-            ∙ rooted-at f (ofFields f false 0 t) (t * 2 ^ 0) y (mul-pos (rest-pos (2 ^ w) b (s .pre .0) z) (pow-pos 0)) (read-low f false t)
-            (λ num den D e. g num den D
-            (e
-            ∙ ap (λ (x : ℕ). x * 2 ^ low f * den) (mul-one t)
-            ∙ ap (λ (x : ℕ). x * den) (ap (λ (x : ℕ). t * 2 ^ x) L ∙ ap (λ (x : ℕ). x * 2 ^ s .args .least) (sym (cut-off s)) ∙ sym (c .lifted .ensures .0)))),
+        low-small (prec f) (emax f) (n .a) l (two f) (reach f) (sym L) (c .lifted .ensures .3),
+        subst (λ (x : ℕ). HasValue (ofFields f false x t) false (n .q * 2 ^ n .a) (2 ^ (2 * l))) (sym (c .before .if1 .taken))
+            (subst (λ (x : ℕ). HasValue (ofFields f false 0 t) false x (2 ^ (2 * l)))
+            (ap (λ (x : ℕ). t * 2 ^ x) (zero-add l) ∙ ap (λ (x : ℕ). x * 2 ^ l) (sym (cut-off s)) ∙ sym (c .lifted .ensures .0))
+            (squared f (ofFields f false 0 t) l t 0 L (read-low f false t))),
       ),
     )
 
 returns-2 : tie.Need-returns-2
 returns-2 c =
     let s = c .before in
-    let b = s .args .b in
     let w = s .args .w in
-    let t = b % 2 ^ w in
-    let x = b / 2 ^ w in
+    let t = s .args .b % 2 ^ w in
+    let x = s .args .b / 2 ^ w in
+    let l = s .args .least in
     let p = positive x (c .if1 .left) in (
       omega (arith, unit s),
       omega (arith, cut-off s, unit s, below s),
       omega (arith, p),
       omega (arith, p),
       λ f P L O. (
-        high-small (prec f) (emax f) x (s .args .least) (two f) (reach f) (sym L) p O,
-        λ y g.
-            rooted-at f (ofFields f false x t) ((hid f + t) * 2 ^ (x - 1)) y
-            (mul-pos (lt-of-lt-of-le (pow-pos (prec f - 1)) (le-add-right (hid f) t)) (pow-pos (x - 1)))
-            (read-high f false x t p O)
-            (λ num den D e. g num den D
-            (e
-            ∙ ap (λ (v : ℕ). v * den)
-            (mul-assoc (hid f + t) (2 ^ (x - 1)) (2 ^ low f)
-            ∙ ap (λ (v : ℕ). (hid f + t) * v) (ap (λ (v : ℕ). 2 ^ (x - 1) * 2 ^ v) L ∙ sym (pow-add 2 (x - 1) (s .args .least)))
-            ∙ ap (λ (v : ℕ). v * 2 ^ (x - 1 + s .args .least))
-            (add-comm (hid f) t ∙ ap (λ (v : ℕ). t + v) (hid-is f w P ∙ sym (unit s)) ∙ ap (λ (v : ℕ). v + 1 * 2 ^ w % 2 ^ 64) (sym (cut-off s)))))),
+        high-small (prec f) (emax f) x l (two f) (reach f) (sym L) p O,
+        subst (λ (q : ℕ). HasValue (ofFields f false x t) false (q * 2 ^ (x - 1 + l)) (2 ^ (2 * l)))
+            (add-comm (hid f) t ∙ ap (λ (v : ℕ). t + v) (hid-is f w P ∙ sym (unit s)) ∙ ap (λ (v : ℕ). v + 1 * 2 ^ w % 2 ^ 64) (sym (cut-off s)))
+            (squared f (ofFields f false x t) l (hid f + t) (x - 1) L (read-high f false x t p O)),
       ),
     )
 
