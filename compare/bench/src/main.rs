@@ -50,7 +50,7 @@ roots and narrowing: nanoseconds a call, of independent calls | of calls that ea
   digits is the function as it was before Wish 3 of document 02, in Rust: a root a digit a turn, and narrow with
   branches, which the port's compiler left out; processor is the one instruction for it. None is inlined. Inputs:
   ordinary, 2^-20 to 2^20; subnormal and huge, the ends of the input's format (for narrow those of f32, and past its
-  top); hard, roots for which the port's guess fails and its digits answer, ties and their neighbours (narrow).";
+  top); hard, roots for which the port's first guess fails its test, ties and their neighbours (narrow).";
 
 /// Whether all that was compared agreed.
 fn bench(rounds: usize) -> bool {

@@ -222,15 +222,40 @@ fn nearest_by_digits(m: u64) -> NearRoot
     }
 }
 
-// The whole number nearest to the root of m: the guess g where it passes the test, else digit by digit. g is nearest just
-// where m - (g * g - g) is above 0 and at most 2 * g; wrapped, what is below 1 is a huge number, so one comparison tells.
+// The guess g, with over where it is the whole number nearest to the root of m, and 0 where it is not. It is nearest just where
+// m - (g * g - g) is above 0 and at most 2 * g; wrapped, what is below 1 is a huge number, so that one comparison tells.
+fn tested(m: u64, g: u64) -> NearRoot
+    requires { ⌜ (m < 2 ^ 54) × (g ≤ 2 ^ 28) ⌝ }
+    ensures { λ r. ⌜ (0 < r .over → NearestRoot m (r .n) × (r .n * r .n + r .over ≡ m + r .n)) × (NearestRoot m g → 0 < r .over) ⌝ }
+{
+    let over = std::num::wrapping_sub_u64(m + g, g * g);
+    if std::num::wrapping_sub_u64(over, 1) < g * 2 {
+        NearRoot { n: g, over: over }
+    } else {
+        NearRoot { n: g, over: 0 }
+    }
+}
+
+// g - 1, or 0 where there is none.
+fn one_less(g: u64) -> u64
+    ensures { λ r. ⌜ r ≤ g ⌝ }
+{
+    if 0 < g { g - 1 } else { g }
+}
+
+// The whole number nearest to the root of m: the guess g where it passes the test, or one less, since a guess is seldom too
+// small; else digit by digit.
 fn nearest_root(m: u64, g: u64) -> NearRoot
     requires { ⌜ (0 < m) × (m < 2 ^ 54) × (g ≤ 2 ^ 28) ⌝ }
     ensures { λ r. ⌜ NearestRoot m (r .n) × (r .n * r .n + r .over ≡ m + r .n) ⌝ }
 {
-    let over = std::num::wrapping_sub_u64(m + g, g * g);
-    if std::num::wrapping_sub_u64(over, 1) < g * 2 {
-        return NearRoot { n: g, over: over };
+    let first = tested(m, g);
+    if 0 < first.over {
+        return first;
+    }
+    let second = tested(m, one_less(g));
+    if 0 < second.over {
+        return second;
     }
     nearest_by_digits(m)
 }

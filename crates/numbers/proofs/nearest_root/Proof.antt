@@ -1,55 +1,30 @@
--- `numbers::nearest_root` meets its contract: a guess that passes is nearest, and the digits answer where it does not. Assumes nothing.
-use mathlib.Core.Path.{_≡_}
-use Prim.Native.Nat.{ℕ, _+_, _*_, _%_, _^_, _≤_, _<_}
+-- `numbers::nearest_root` meets its contract: a guess that passes is nearest, and the digits answer where none does. Assumes nothing.
 use native.Mathlib.Omega.{arith}
 use borrow.Author.Needs.{needs}
-use Rattle.numbers.specs.Numbers.{NearestRoot}
-use Rattle.numbers.proofs.Rooting.{square-mono}
 use Rattle.numbers.proofs.nearest_root.Statement.{statement}
 use Rattle.numbers.proofs.nearest_root.Tie as tie
 
-add-wrapping-sub-u64 : tie.Need-add-wrapping-sub-u64
-add-wrapping-sub-u64 c = search needs
-
-square-small : (g : ℕ) → g ≤ 2 ^ 28 → g * g ≤ 2 ^ 56
-square-small g = square-mono g (2 ^ 28)
-
-mul-wrapping-sub-u64 : tie.Need-mul-wrapping-sub-u64
-mul-wrapping-sub-u64 c = omega (arith, square-small (c .args .g) (c .pre .2))
-
-wrapping-sub-u64-requires : tie.Need-wrapping-sub-u64-requires
-wrapping-sub-u64-requires c κs = search needs
-
-wrapping-sub-u64-requires-2 : tie.Need-wrapping-sub-u64-requires-2
-wrapping-sub-u64-requires-2 c κs = search needs
-
-mul-if1 : tie.Need-mul-if1
-mul-if1 c = search needs
-
--- what passes did not wrap
-passed : (m g over less : ℕ) → m < 2 ^ 54 → g ≤ 2 ^ 28 → (over + g * g) % 2 ^ 64 ≡ m + g → (less + 1) % 2 ^ 64 ≡ over → less < g * 2
-    → NearestRoot m g × (g * g + over ≡ m + g)
-passed m g over less M G e f l =
-    let s = square-small g G in
-    let o : over ≡ less + 1 = omega (arith, f, l) in
-    let u : g * g + over ≡ m + g = omega (arith, s, o, e, l) in
-    ((omega (arith, u, o), omega (arith, u, o, l)), u)
+tested-requires : tie.Need-tested-requires
+tested-requires c κs = search needs
 
 returns : tie.Need-returns
-returns c =
-    let w = c .before .before in
-    let s = w .before in
-    passed (s .args .m) (s .args .g) (w .wrapping-sub-u64 .result) (c .before .wrapping-sub-u642 .result) (s .pre .1) (s .pre .2) (w .wrapping-sub-u64 .ensures)
-    (c .before .wrapping-sub-u642 .ensures) (c .if1 .taken)
+returns c = c .before .before .tested .ensures .0 (c .if1 .taken)
+
+one-less-requires : tie.Need-one-less-requires
+one-less-requires c κs = search needs
+
+tested-requires-2 : tie.Need-tested-requires-2
+tested-requires-2 c κs = search needs
+
+returns-2 : tie.Need-returns-2
+returns-2 c = c .before .before .tested2 .ensures .0 (c .if2 .taken)
 
 nearest-by-digits-requires : tie.Need-nearest-by-digits-requires
 nearest-by-digits-requires c κs = search needs
 
-returns-2 : tie.Need-returns-2
-returns-2 c = search needs
+returns-3 : tie.Need-returns-3
+returns-3 c = c .nearest-by-digits .ensures
 
 pub nearest-root-spec : {M : Type 1} → statement M
 nearest-root-spec =
-    tie.close
-    (tie.spec add-wrapping-sub-u64 mul-wrapping-sub-u64 wrapping-sub-u64-requires wrapping-sub-u64-requires-2 mul-if1 returns
-    nearest-by-digits-requires returns-2)
+    tie.close (tie.spec tested-requires returns one-less-requires tested-requires-2 returns-2 nearest-by-digits-requires returns-3)
