@@ -2,7 +2,7 @@
 // total reads of lent numbers; and the answers that all crates above share.
 ghost use mathlib.Core.Path.{_≡_};
 ghost use mathlib.Core.Bool.{Bool, false, cond};
-ghost use Prim.Native.Nat.{ℕ, suc, _+_, _*_, _/_, _%_, _^_, _≤_, _<_};
+ghost use Prim.Native.Nat.{ℕ, suc, _+_, _-_, _*_, _/_, _%_, _^_, _≤_, _<_};
 ghost use lib.ListN.{getD};
 ghost use lib.Ieee.{Format, binary32, binary64, prec, emax, low, ones, ofBits, ofFields, nan};
 ghost use lib.Ieee.Nearest.{closest};
@@ -226,7 +226,7 @@ fn nearest_by_digits(m: u64) -> NearRoot
 // m - (g * g - g) is above 0 and at most 2 * g; wrapped, what is below 1 is a huge number, so that one comparison tells.
 fn tested(m: u64, g: u64) -> NearRoot
     requires { ⌜ (m < 2 ^ 54) × (g ≤ 2 ^ 28) ⌝ }
-    ensures { λ r. ⌜ (0 < r .over → NearestRoot m (r .n) × (r .n * r .n + r .over ≡ m + r .n)) × (NearestRoot m g → 0 < r .over) ⌝ }
+    ensures { λ r. ⌜ (r .n ≡ g) × (0 < r .over → NearestRoot m (r .n) × (r .n * r .n + r .over ≡ m + r .n)) × (NearestRoot m g → 0 < r .over) ⌝ }
 {
     let over = std::num::wrapping_sub_u64(m + g, g * g);
     if std::num::wrapping_sub_u64(over, 1) < g * 2 {
@@ -238,7 +238,7 @@ fn tested(m: u64, g: u64) -> NearRoot
 
 // g - 1, or 0 where there is none.
 fn one_less(g: u64) -> u64
-    ensures { λ r. ⌜ r ≤ g ⌝ }
+    ensures { λ r. ⌜ r ≡ g - 1 ⌝ }
 {
     if 0 < g { g - 1 } else { g }
 }

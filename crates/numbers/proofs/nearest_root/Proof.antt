@@ -8,7 +8,7 @@ tested-requires : tie.Need-tested-requires
 tested-requires c κs = search needs
 
 returns : tie.Need-returns
-returns c = c .before .before .tested .ensures .0 (c .if1 .taken)
+returns c = c .before .before .tested .ensures .1 (c .if1 .taken)
 
 one-less-requires : tie.Need-one-less-requires
 one-less-requires c κs = search needs
@@ -17,7 +17,7 @@ tested-requires-2 : tie.Need-tested-requires-2
 tested-requires-2 c κs = search needs
 
 returns-2 : tie.Need-returns-2
-returns-2 c = c .before .before .tested2 .ensures .0 (c .if2 .taken)
+returns-2 c = c .before .before .tested2 .ensures .1 (c .if2 .taken)
 
 nearest-by-digits-requires : tie.Need-nearest-by-digits-requires
 nearest-by-digits-requires c κs = search needs

@@ -1,5 +1,5 @@
 -- `numbers::tested` meets its contract: what passes is nearest, and what is nearest passes. Assumes nothing.
-use mathlib.Core.Path.{_≡_}
+use mathlib.Core.Path.{_≡_, refl}
 use Prim.Native.Nat.{ℕ, _+_, _*_, _%_, _^_, _≤_, _<_}
 use native.Mathlib.Omega.{arith}
 use borrow.Author.Needs.{needs}
@@ -41,7 +41,7 @@ returns c =
     let s = w .before in
     let p = passed (s .args .m) (s .args .g) (w .wrapping-sub-u64 .result) (c .before .wrapping-sub-u642 .result) (s .pre .0) (s .pre .1)
     (w .wrapping-sub-u64 .ensures) (c .before .wrapping-sub-u642 .ensures) (c .if1 .taken) in
-    (λ o. p, λ N. omega (arith, p .1, N .0))
+    (refl, λ o. p, λ N. omega (arith, p .1, N .0))
 
 -- what is nearest would have passed
 failed : (m g over less : ℕ) → m < 2 ^ 54 → g ≤ 2 ^ 28 → over < 2 ^ 64 → less < 2 ^ 64 → (over + g * g) % 2 ^ 64 ≡ m + g → (less + 1) % 2 ^ 64 ≡ over
@@ -56,6 +56,7 @@ returns-2 : tie.Need-returns-2
 returns-2 c =
     let w = c .before .before in
     let s = w .before in (
+      refl,
       λ o. absurd (omega arith),
       λ N. absurd (failed (s .args .m) (s .args .g) (w .wrapping-sub-u64 .result) (c .before .wrapping-sub-u642 .result) (s .pre .0) (s .pre .1)
           (omega arith) (omega arith) (w .wrapping-sub-u64 .ensures) (c .before .wrapping-sub-u642 .ensures) (c .if1 .left) N),
