@@ -117,7 +117,7 @@ pub fn hard64(random: &mut Random) -> Option<f64> {
     let q = m >> odd;
     let exponent = 2 * random.between(0, 19) as i32 - 72;
     let power = f64::from_bits(((1023 + exponent) as u64) << 52);
-    let hard = odd < 2 && fails(q << odd, guess(q, odd), 26);
+    let hard = fails(q << odd, guess(q, odd), 26);
     hard.then_some((q << odd) as f64 * power)
 }
 

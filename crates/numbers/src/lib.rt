@@ -197,7 +197,7 @@ fn digits(m: u64) -> Root
     r
 }
 
-// The whole number n nearest to the root of n * n - n + over.
+// A whole number n: where over is above 0, the one nearest to the root of n * n - n + over.
 struct NearRoot {
     pub n: u64,
     pub over: u64,
@@ -222,7 +222,7 @@ fn nearest_by_digits(m: u64) -> NearRoot
     }
 }
 
-// The guess g, with over where it is the whole number nearest to the root of m, and 0 where it is not. It is nearest just where
+// The guess g, with over where it is the whole number nearest to the root of an m above 0, and 0 where it is not. It is nearest just where
 // m - (g * g - g) is above 0 and at most 2 * g; wrapped, what is below 1 is a huge number, so that one comparison tells.
 fn tested(m: u64, g: u64) -> NearRoot
     requires { ⌜ (m < 2 ^ 54) × (g ≤ 2 ^ 28) ⌝ }
@@ -289,7 +289,7 @@ fn better_guess(x: f64, g: f64) -> f64 {
     u * (uu + 12.0f64 * sx) / ((g + g) * (3.0f64 * uu + 4.0f64 * sx))
 }
 
-// A guess at the root of q * 2^odd * 2^52, for q of 53 digits. Nothing is claimed but that it has at most 54 digits: whoever asks
+// A guess at the root of q * 2^odd * 2^52, for q of 53 digits (compare/bench repeats it). Nothing is claimed but that it has at most 54 digits: whoever asks
 // tests it. x is the bits of the number q * 2^odd / 2^52, from 1 up to 4; halved, with a little less than half the bits of 1
 // added, they are near those of its root. Of the better guess the fraction is kept and, once 2^53 is added, the last two bits of
 // the exponent, which are then the leading digit: 1 below 2, or 2 where rounding has led there.

@@ -3,7 +3,8 @@
 use mathlib.Core.Path.{_≡_, sym, ap, _∙_, subst}
 use Prim.Native.Nat.{ℕ, suc, _+_, _-_, _*_, _/_, _%_, _^_, _≤_, _<_}
 use mathlib.Core.Bool.{false}
-use native.Mathlib.Nat.{le-trans, le-of-eq, lt-of-lt-of-le, mul-comm, mul-assoc, mul-one, mul-pos, mul-le-mul-left, mul-le-mul-right, mul-lt-mul-of-pos-right, pow-succ'}
+use native.Mathlib.Nat.{le-trans, le-of-eq, lt-of-lt-of-le, mul-comm, mul-assoc}
+use native.Mathlib.Nat.{mul-one, mul-pos, mul-le-mul-left, mul-le-mul-right, mul-lt-mul-of-pos-right, pow-succ'}
 use native.Mathlib.Omega.{arith}
 use lib.Bits.{bitAnd, and-mask}
 use lib.Pow.{pow-add, pow-pos, pow-mono}
