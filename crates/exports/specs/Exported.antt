@@ -120,7 +120,7 @@ decided set cost events prices a c =
     (decideFrom set cost events prices a c (verdict (settingRows set)))
     (unfit, a, c)
 
--- ---- pgo_assemble: rows 1 to 14, then 21; the work as found where refused
+-- ---- pgo_assemble: rows 1 to 14 and 26, then 21; the work as found where refused
 
 -- No f64 work is lent, and none is missed; an output as long as the poses is taken as given.
 abbrev pub assembling : Manifold → List Float → List ℕ → List Float → List ℕ → List Float → Input

@@ -1,80 +1,83 @@
--- The code counts free poses in an array of 256, the table over the poses: where rows 1 to 11 pass the two agree, so that the answers are equal. Assumes nothing.
-use Prim.Native.Nat.{ℕ, _-_, _*_, _/_, _<_, _≤_}
-use native.Mathlib.Nat.{add-sub-of-le}
+-- The code counts free poses in an array of 256, the table over the poses: where rows 1 to 11 pass the two agree, and the labels tell the loose poses, so
+-- that the answers are equal. Assumes nothing.
+use Prim.Native.Nat.{ℕ, _*_, _/_, _<_, _≤_}
 use native.Mathlib.Omega.{arith}
-use mathlib.Core.Path.{_≡_, refl, sym, ap, _∙_}
-use mathlib.Core.Bool.{Bool, false}
+use mathlib.Core.Path.{_≡_, refl, ap, _∙_}
+use mathlib.Core.Bool.{Bool}
 use mathlib.Core.List.{List, []}
 use lib.ListN.{length, take}
-use lib.Dec.{eqb, ltb, leb}
-use borrow.Author.Tests.{ltb-false, leb-false, ne-eqb}
+use lib.Dec.{eqb, ltb}
+use borrow.Author.Tests.{ltb-false}
 use Rattle.numbers.specs.Walks.{count, table}
 use Rattle.numbers.specs.Refusals.{orElse, ask, lowest, verdict}
 use Rattle.numbers.specs.declared.Refusal.{Refusal}
 use Rattle.numbers.specs.declared.Verdict.{Verdict}
 use Rattle.numbers.specs.declared.Verdict.the-variants.{Fine, Refused}
-use Rattle.graph.specs.declared.Edge.{Edge}
 use Rattle.graph.specs.declared.Manifold.{Manifold}
 use Rattle.graph.specs.declared.Manifold.the-variants.{Se3, Gravity}
 use Rattle.graph.specs.declared.Counts.{Counts}
 use Rattle.graph.specs.declared.Checked.{Checked}
 use Rattle.graph.specs.declared.Checked.the-variants.{Fit, Turned}
 use Rattle.graph.specs.declared.Checks.{Checks}
-use Rattle.graph.specs.Graph.{Graph, touches, isFree, freeCount}
+use Rattle.graph.specs.Graph.{isFree, freeCount}
 use Rattle.graph.specs.Lent.{Input, graphOf, lentGraph, lent, unset, dofOf}
-use Rattle.graph.specs.Table.{tooMany, shortWork, edgeFaults, graphRows, settingRows, countsOf, settle, blockNumber, blocksOf, graphChecks, checks}
-use Rattle.numbers.proofs.Walking.{some-never, count-above}
-use Rattle.numbers.proofs.Tests.{neither-first, neither-second}
-use Rattle.numbers.proofs.Reading.{ask-fine, row-fault, row-at}
+use Rattle.graph.specs.Islands.{weighs, isLoose}
+use Rattle.graph.specs.Labels.{labelOf, labelFaults, Merges, Labelled}
+use Rattle.graph.specs.Table.{tooMany, shortWork, islandFaults, graphRows, settingRows, countsOf, settle, blockNumber, blocksOf, graphChecks, checks}
+use Rattle.numbers.proofs.Tests.{neither-first}
+use Rattle.numbers.proofs.Reading.{ask-fine, row-at}
+use Rattle.numbers.proofs.Speaking.{lowest-ext}
+use Rattle.graph.proofs.Free.{Ends, ends-in, within}
+use Rattle.graph.proofs.Loose.{loose-island}
 
 pub dof-most : (m : Manifold) → dofOf m ≤ 6
 dof-most Se3 = omega arith
 dof-most (Gravity g) = omega arith
 
--- ---- ends that are in range name no pose past the last
-pub record Ends {P M : Type 0} (g : Graph P M) (k : ℕ) : Type 0 where
-  pub a : g .a k < g .poses
-  pub b : g .b k < g .poses
+-- rows 12 and 13 after a verdict, with a free count
+abbrev pub freeSaid : Verdict → ℕ → Verdict
+freeSaid v free = orElse (orElse v (ask (eqb free 0) 12 0)) (ask (ltb 64 free) 13 0)
 
-pub ends-in : {P : Type 0} (g : Graph P Edge) → lowest (edgeFaults g) (g .edges) ≡ Fine → (k : ℕ) → k < g .edges → Ends g k
-ends-in g e k l =
-    let h = row-fault (edgeFaults g) (g .edges) 0 k e l in
-    record {
-      a = leb-false (g .poses) (g .a k) (neither-first _ (leb (g .poses) (g .b k)) h);
-      b = leb-false (g .poses) (g .b k) (neither-second (leb (g .poses) (g .a k)) _ h);
-    }
-
-pub free-past : {P M : Type 0} (g : Graph P M) → ((k : ℕ) → k < g .edges → Ends g k) → (x : ℕ) → g .poses ≤ x → isFree g x ≡ false
-unfolding isFree
-free-past g h x q = rw (some-never (touches g x) (g .edges) (λ k m. rw (other (g .a k) (h k m .a), other (g .b k) (h k m .b))))
-  where
-    other : (a : ℕ) → a < g .poses → eqb a x ≡ false
-    other a s = ne-eqb a x (λ e. omega arith)
-
-pub within : {P M : Type 0} (g : Graph P M) (n : ℕ) → g .poses ≤ n → ((k : ℕ) → k < g .edges → Ends g k) → count (isFree g) n ≡ freeCount g
-within g n l h = ap (count (isFree g)) (sym (add-sub-of-le l)) ∙ count-above (isFree g) (g .poses) (n - g .poses) (free-past g h)
-
--- rows 12 to 14 after a verdict, and the answer, with a free count
-abbrev pub answer : Input → Verdict → ℕ → Checked
-answer i v free =
+-- then 26, as something says it, and 14; and the answer
+abbrev pub answer : Input → Verdict → ℕ → Verdict → Checked
+answer i v free loose =
     settle
-    (orElse (orElse (orElse v (ask (eqb free 0) 12 0)) (ask (ltb 64 free) 13 0))
+    (orElse (orElse (freeSaid v free) loose)
     (ask (shortWork (dofOf (i .manifold) * free) (length (i .poses) / 12) (i .room .work32) (i .room .work64)) 14 0))
     (record { poses = length (i .poses) / 12; edges = length (i .ends) / 2; free = free })
 
-pub free-agrees : (i : Input) → verdict (take 8 (graphRows i)) ≡ Fine → count (isFree (graphOf i)) 256 ≡ freeCount (graphOf i)
-unfolding tooMany
-free-agrees i e =
-    within (graphOf i) 256
-    (ltb-false 256 (graphOf i .poses) (neither-first _ _ (ask-fine _ 3 0 (row-at Fine (take 8 (graphRows i)) 2 e))))
-    (ends-in (graphOf i) (row-at Fine (take 8 (graphRows i)) 6 e))
+module _ (i : Input) (e : verdict (take 8 (graphRows i)) ≡ Fine) where
+  few : graphOf i .poses ≤ 256
+  unfolding tooMany
+  few = ltb-false 256 (graphOf i .poses) (neither-first _ _ (ask-fine _ 3 0 (row-at Fine (take 8 (graphRows i)) 2 e)))
 
-same-answer : (i : Input) (v : Verdict) (m n : ℕ) → (v ≡ Fine → m ≡ n) → answer i v m ≡ answer i v n
-same-answer i Fine m n h = ap (answer i Fine) (h refl)
-same-answer i (Refused r) m n h = refl
+  inside : (k : ℕ) → k < graphOf i .edges → Ends (graphOf i) k
+  inside = ends-in (graphOf i) (row-at Fine (take 8 (graphRows i)) 6 e)
 
-pub answers : (i : Input) → answer i (verdict (take 8 (graphRows i))) (count (isFree (graphOf i)) 256) ≡ settle (verdict (graphRows i)) (countsOf i)
-answers i = same-answer i (verdict (take 8 (graphRows i))) (count (isFree (graphOf i)) 256) (freeCount (graphOf i)) (free-agrees i)
+  free-agrees : count (isFree (graphOf i)) 256 ≡ freeCount (graphOf i)
+  free-agrees = within (graphOf i) 256 few inside
+
+  islands-agree : (blocks labels : List ℕ) → blocks ≡ blocksOf i → Merges (graphOf i) (graphOf i .edges) (labelOf blocks) (labelOf labels)
+      → lowest (labelFaults labels) (graphOf i .poses) ≡ lowest (islandFaults (graphOf i)) (graphOf i .poses)
+  islands-agree blocks labels h m = lowest-ext 26 _ (isLoose (graphOf i)) (graphOf i .poses) (loose-island (graphOf i) few inside blocks labels h m)
+
+or-same : (v s t : Verdict) → (v ≡ Fine → s ≡ t) → orElse v s ≡ orElse v t
+or-same Fine s t h = h refl
+or-same (Refused r) s t h = refl
+
+-- what row 26 says counts only where nothing was said before
+same-answer : (i : Input) (v : Verdict) (m n : ℕ) (s t : Verdict) → (v ≡ Fine → m ≡ n) → (v ≡ Fine → freeSaid v m ≡ Fine → s ≡ t)
+    → answer i v m s ≡ answer i v n t
+same-answer i Fine m n s t h k = rw (or-same (freeSaid Fine m) s t (k refl)) (ap (λ (f : ℕ). answer i Fine f t) (h refl))
+same-answer i (Refused r) m n s t h k = refl
+
+pub answers : (i : Input) (free : ℕ) (blocks labels : List ℕ) → free ≡ count (isFree (graphOf i)) 256 → blocks ≡ blocksOf i
+    → (freeSaid (verdict (take 8 (graphRows i))) free ≡ Fine → Merges (graphOf i) (graphOf i .edges) (labelOf blocks) (labelOf labels))
+    → answer i (verdict (take 8 (graphRows i))) free (lowest (labelFaults labels) (graphOf i .poses)) ≡ settle (verdict (graphRows i)) (countsOf i)
+answers i free blocks labels f h m =
+    same-answer i (verdict (take 8 (graphRows i))) _ _ _ (lowest (islandFaults (graphOf i)) (graphOf i .poses))
+    (λ e. f ∙ free-agrees i e)
+    (λ e s. islands-agree i e blocks labels h (m s))
 
 -- ---- who is free depends on the ends and the fixed list alone
 free-alone : (i : Input) → isFree (lentGraph [] (i .ends) [] (i .fixed)) ≡ isFree (graphOf i)
@@ -85,17 +88,23 @@ blocks-alone : (i : Input) → blockNumber (lentGraph [] (i .ends) [] (i .fixed)
 unfolding blockNumber isFree
 blocks-alone i = refl
 
--- rows 1 to 14, as the code comes by them
-pub graph-checked : (i : Input) (free : ℕ) (a : Checked) (l : List ℕ)
+-- labels depend on the ends and the weights alone
+labels-alone : (i : Input) (old new : List ℕ) → Labelled (i .ends) (i .edges) old new → Merges (graphOf i) (graphOf i .edges) (labelOf old) (labelOf new)
+unfolding weighs
+labels-alone i old new m = record { same = m .same; ends = m .ends; least = m .least }
+
+-- rows 1 to 14 and 26, as the code comes by them
+pub graph-checked : (i : Input) (free : ℕ) (a : Checked) (l labels : List ℕ)
     → free ≡ count (isFree (lentGraph [] (i .ends) [] (i .fixed))) 256
-    → a ≡ answer i (verdict (take 8 (graphRows i))) free
     → l ≡ table (blockNumber (lentGraph [] (i .ends) [] (i .fixed))) 256
+    → (freeSaid (verdict (take 8 (graphRows i))) free ≡ Fine → Labelled (i .ends) (i .edges) l labels)
+    → a ≡ answer i (verdict (take 8 (graphRows i))) free (lowest (labelFaults labels) (graphOf i .poses))
     → _≡_ {A = Checks} (record { answer = a; blocks = l }) (graphChecks i)
 unfolding graphChecks
-graph-checked i free a l f e h =
+graph-checked i free a l labels f h m e =
     let f' : free ≡ count (isFree (graphOf i)) 256 = f ∙ ap (λ (t : ℕ → Bool). count t 256) (free-alone i) in
-    let a' : a ≡ settle (verdict (graphRows i)) (countsOf i) = e ∙ ap (answer i (verdict (take 8 (graphRows i)))) f' ∙ answers i in
     let l' : l ≡ blocksOf i = h ∙ ap (λ (t : ℕ → ℕ). table t 256) (blocks-alone i) in
+    let a' : a ≡ settle (verdict (graphRows i)) (countsOf i) = e ∙ answers i free l labels f' l' (λ s. labels-alone i l labels (m s)) in
     rw (a', l')
 
 -- ---- the settings come last

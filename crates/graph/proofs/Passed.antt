@@ -2,12 +2,12 @@
 use Prim.Native.Nat.{ℕ, _+_, _*_, _%_, _<_, _≤_}
 use native.Mathlib.Omega.{arith}
 use mathlib.Core.Path.{_≡_, refl, sym, ap, _∙_}
-use mathlib.Core.Bool.{Bool, true, false, not}
+use mathlib.Core.Bool.{Bool, true, false, not, _&&_, true≢false}
 use lib.ListN.{length, getD}
 use lib.Dec.{eqb, ltb}
 use lib.Ieee.{lt}
 use lib.Ieee.Scale.{finite}
-use borrow.Author.Tests.{not-false, eqb-true, eqb-false, ltb-true, ltb-false, lt-ltb, le-ltb, leb-false}
+use borrow.Author.Tests.{not-false, eqb-true, eqb-false, ltb-false, lt-ltb, le-ltb, leb-false}
 use Rattle.numbers.specs.Notation.{num, ratio32, if-then}
 use Rattle.numbers.specs.Refusals.{verdict}
 use Rattle.numbers.specs.declared.Verdict.the-variants.{Fine}
@@ -22,13 +22,16 @@ use Rattle.graph.specs.declared.Slot.{Slot}
 use Rattle.graph.specs.declared.Slot.the-variants.{Block, Fixed}
 use Rattle.graph.specs.Graph.{Graph, isFree, blockOf, freeCount, slotAt, linksOf}
 use Rattle.graph.specs.Lent.{Input, graphOf, dofOf, none, slotIn, lentLinks, endA, endB}
-use Rattle.graph.specs.Table.{badGravity, unfit, tooMany, shortWork, badTolerance, badDamping, poseFaults, edgeFaults, fixedFaults}
+use Rattle.graph.specs.Islands.{Reaches, isLoose}
+use Rattle.graph.specs.Table.{badGravity, unfit, tooMany, shortWork, badTolerance, badDamping, poseFaults, edgeFaults, fixedFaults, islandFaults}
 use Rattle.graph.specs.Table.{graphRows, settingRows, rows, countsOf, blockNumber, blocksOf, graphChecks, checks}
 use Rattle.numbers.proofs.Reading.{ask-fine, row-fault, row-at, read-before}
 use Rattle.numbers.proofs.Tests.{neither-first, neither-second}
-use Rattle.graph.proofs.Answers.{ends-in, settle-fit}
+use Rattle.graph.proofs.Free.{ends-in}
+use Rattle.graph.proofs.Answers.{settle-fit}
+use Rattle.graph.proofs.Islands.{reaches-means}
 
--- rows 1 to 14
+-- rows 1 to 14 and 26
 pub record PassedGraph (i : Input) : Type 0 where
   pub gravity : badGravity (i .manifold) ≡ false
   pub poses-length : length (i .poses) ≡ graphOf i .poses * 12
@@ -49,6 +52,7 @@ pub record PassedGraph (i : Input) : Type 0 where
   pub fixed-in : (k : ℕ) → k < length (i .fixed) → getD (i .fixed) k 0 < graphOf i .poses
   pub some-free : 0 < freeCount (graphOf i)
   pub most-free : freeCount (graphOf i) ≤ 64
+  pub no-island : (x : ℕ) → x < graphOf i .poses → isFree (graphOf i) x ≡ true → Reaches (graphOf i) x
   pub work32-enough : dofOf (i .manifold) * freeCount (graphOf i) * (dofOf (i .manifold) * freeCount (graphOf i) + 3) ≤ i .room .work32
   pub work64-enough : 24 * graphOf i .poses ≤ i .room .work64
 
@@ -75,8 +79,13 @@ equal x y h = eqb-true x y (not-false (eqb x y) h)
 positive : (x : ℕ) → eqb x 0 ≡ false → 0 < x
 positive x h = let n = eqb-false x 0 h in omega (arith, n)
 
+held : (f r : Bool) → f ≡ true → (f && not r) ≡ false → r ≡ true
+held true true e h = refl
+held true false e h = sym h
+held false r e h = absurd (true≢false (sym e))
+
 pub passed-graph : (i : Input) → verdict (graphRows i) ≡ Fine → PassedGraph i
-unfolding unfit tooMany shortWork
+unfolding unfit tooMany shortWork isLoose
 passed-graph i e =
     let g = graphOf i in
     let row1 = ask-fine _ 1 0 (row-at Fine (graphRows i) 0 e) in
@@ -89,7 +98,7 @@ passed-graph i e =
     let row3 = ask-fine _ 3 0 (row-at Fine (graphRows i) 2 e) in
     let row3b = neither-second (ltb 256 (g .poses)) _ row3 in
     let row7 = row-at Fine (graphRows i) 6 e in
-    let row14 = ask-fine _ 14 0 (row-at Fine (graphRows i) 10 e) in
+    let row14 = ask-fine _ 14 0 (row-at Fine (graphRows i) 11 e) in
     let n = dofOf (i .manifold) * freeCount g in
     record {
       gravity = row1;
@@ -111,6 +120,7 @@ passed-graph i e =
       fixed-in = λ k l. leb-false (g .poses) (getD (i .fixed) k 0) (row-fault (fixedFaults (g .poses) (i .fixed)) (length (i .fixed)) 0 k (row-at Fine (graphRows i) 7 e) l);
       some-free = positive _ (ask-fine _ 12 0 (row-at Fine (graphRows i) 8 e));
       most-free = ltb-false 64 (freeCount g) (ask-fine _ 13 0 (row-at Fine (graphRows i) 9 e));
+      no-island = λ x l f. reaches-means g x .0 (held _ _ f (row-fault (islandFaults g) (g .poses) 0 x (row-at Fine (graphRows i) 10 e) l));
       work32-enough = ltb-false (i .room .work32) (n * (n + 3)) (neither-first _ _ row14);
       work64-enough = ltb-false (i .room .work64) (24 * g .poses) (neither-second (ltb (i .room .work32) (n * (n + 3))) _ row14);
     }
@@ -151,7 +161,7 @@ fit i n e = let h = settle-fit (verdict (rows i)) (countsOf i) n e in (passed i 
 
 -- ---- slots
 
--- a block is below the free count, and no two free poses have one block
+-- a block is below the free count
 pub block-below : {P M : Type 0} (g : Graph P M) (x b : ℕ) → x < g .poses → slotAt g x ≡ Block b → b < freeCount g
 unfolding slotAt
 block-below {P} {M} g x b l e = go (isFree g x) refl
@@ -166,20 +176,6 @@ block-below {P} {M} g x b l e = go (isFree g x) refl
         let s : Fixed ≡ Block b = left (Block (blockOf g x)) h refl ∙ e in
         let z : _≡_ {A = ℕ} 0 1 = cc in
         absurd (omega arith)
-
-pub blocks-differ : {P M : Type 0} (g : Graph P M) (x y : ℕ) → isFree g x ≡ true → isFree g y ≡ true → blockOf g x ≡ blockOf g y → x ≡ y
-blocks-differ g x y p q e = go (eqb x y) (eqb-true x y) (eqb-false x y)
-  where
-    apart : (u v : ℕ) → isFree g u ≡ true → blockOf g u ≡ blockOf g v → u < v → ⊥
-    apart u v h d l = let c : blockOf g u < blockOf g v = count-below (isFree g) u v l h in omega arith
-
-    go : (b : Bool) → (b ≡ true → x ≡ y) → (b ≡ false → x ≡ y → ⊥) → x ≡ y
-    go true s d = s refl
-    go false s d = absurd (side (ltb x y) (ltb-true x y) (ltb-false x y))
-      where
-        side : (b : Bool) → (b ≡ true → x < y) → (b ≡ false → y ≤ x) → ⊥
-        side true s' d' = apart x y p e (s' refl)
-        side false s' d' = let n = d refl in let l : y ≤ x = d' refl in apart y x q (sym e) (omega (arith, n))
 
 -- the slot that a block stands for
 slotFor : ℕ → ℕ → Slot

@@ -1,4 +1,5 @@
--- The table of refusals, rows 1 to 19: document 01, "What is turned down, and in what order". A line a row; 7 to 10 go edge by edge. Definitions only.
+-- The table of refusals, rows 1 to 19 and 26: document 01, "What is turned down, and in what order", and document 02, Wish 6. A line a row; 7 to 10 go
+-- edge by edge. Definitions only.
 use Prim.Native.Nat.{ℕ, _+_, _*_, _%_}
 use mathlib.Core.Bool.{Bool, false, not, _||_}
 use mathlib.Core.List.{List, [], _∷_, _++_}
@@ -26,6 +27,7 @@ use Rattle.graph.specs.declared.Checked.the-variants as checked
 use Rattle.graph.specs.declared.Checks.{Checks}
 use Rattle.graph.specs.Graph.{Graph, isFree, blockOf, freeCount}
 use Rattle.graph.specs.Lent.{Input, graphOf, dofOf, none}
+use Rattle.graph.specs.Islands.{isLoose}
 
 -- ---- the tests of the rows
 
@@ -79,7 +81,13 @@ fixedFaults poses fixed =
     fault 11 (λ k. leb poses (getD fixed k 0))
     ∷ []
 
--- rows 1 to 14: manifold, shape, numbers, free poses, work
+-- row 26, pose by pose
+abbrev pub islandFaults : {P : Type 0} → Graph P Edge → List Fault
+islandFaults g =
+    fault 26 (isLoose g)
+    ∷ []
+
+-- rows 1 to 14 and 26: manifold, shape, numbers, free poses, islands, work
 abbrev pub graphRows : Input → List Row
 graphRows i =
     let g = graphOf i in
@@ -94,6 +102,7 @@ graphRows i =
     ∷ placed (length (i .fixed)) (fixedFaults (g .poses) (i .fixed))
     ∷ row 12 (eqb free 0)
     ∷ row 13 (ltb 64 free)
+    ∷ placed (g .poses) (islandFaults g)
     ∷ row 14 (shortWork (dofOf (i .manifold) * free) (g .poses) (i .room .work32) (i .room .work64))
     ∷ []
 

@@ -1,9 +1,9 @@
-// The graph checks: refusals 1 to 19 of document 01, free poses and their blocks (validate_optimizer_inputs and validate_pose_graph of sparse_pgo.rs).
-// Everything is lent shared, so a refusal can change nothing.
+// The graph checks: refusals 1 to 19 of document 01 and 26 of document 02, free poses and their blocks (validate_optimizer_inputs and validate_pose_graph
+// of sparse_pgo.rs). Everything is lent shared, so a refusal can change nothing.
 ghost use mathlib.Core.Path.{_≡_};
 ghost use mathlib.Core.Bool.{not, _||_};
 ghost use mathlib.Core.List.{[]};
-ghost use Prim.Native.Nat.{_+_, _*_, _/_, _^_, _<_, _≤_};
+ghost use Prim.Native.Nat.{ℕ, _+_, _*_, _/_, _^_, _<_, _≤_};
 ghost use lib.Dec.{eqb, ltb, leb};
 ghost use lib.ListN.{length, getD, set, take};
 ghost use lib.Ieee.{nan};
@@ -11,10 +11,13 @@ ghost use lib.Ieee.Scale.{finite};
 ghost use Rattle.numbers.specs.Notation.{if-then};
 ghost use Rattle.numbers.specs.Refusals.{orElse, ask, says, lowest, verdict};
 ghost use Rattle.numbers.specs.Walks.{some, count, table};
+ghost use Rattle.numbers.specs.declared.Verdict.the-variants.{Fine};
 ghost use Rattle.rotations.specs.Rotation.{vec};
 ghost use Rattle.pose_conversion.specs.Conversions.{finiteTransform};
 ghost use Rattle.graph.specs.Graph.{touches, isFree};
 ghost use Rattle.graph.specs.Lent.{dofOf, poseFrom, poseAt, numbersOf, edgeFrom, edgeAt, endA, endB, lentGraph, none, slotIn, lent, unset};
+ghost use Rattle.graph.specs.Islands.{weighs};
+ghost use Rattle.graph.specs.Labels.{labelOf, renamed, labelFaults, Joins, Labelled};
 ghost use Rattle.graph.specs.Table.{badGravity, unfit, tooMany, shortWork, badTolerance, badDamping};
 ghost use Rattle.graph.specs.Table.{poseFaults, edgeFaults, fixedFaults, graphRows, settingRows, settle, blockNumber, graphChecks, checks};
 use numbers::Refusal;
@@ -506,6 +509,88 @@ fn numbered(ends: &[u32], fixed: &[u32]) -> Blocks
     Blocks { at, free }
 }
 
+// ---- row 26: loose islands
+
+// A weight that is not zero; -0 is zero too.
+fn has_weight(edges: &[f32], k: usize) -> bool
+    ensures { λ r. ⌜ r ≡ weighs (lentGraph [] [] (now (edges .entry)) []) k ⌝ }
+{
+    let e = edge_at(edges, k);
+    e.weight != 0.0
+}
+
+// Every pose of one label gets another.
+fn relabel(labels: &mut [u32], old: u32, new: u32)
+    ensures { λ _. ⌜ ((x : ℕ) → x < length (now (labels .entry)) → labelOf (now (labels .exit)) x ≡ renamed old new (labelOf (now (labels .entry)) x)) ⌝ }
+{
+    let mut x = 0;
+    while x < labels.len() {
+        if labels[x] == old {
+            labels[x] = new;
+        }
+        x += 1;
+    }
+}
+
+// Poses a and b, and all with their labels, get the larger of the two.
+fn join(labels: &mut [u32], a: usize, b: usize)
+    ensures { λ _. ⌜ Joins a b (labelOf (now (labels .entry))) (labelOf (now (labels .exit))) ⌝ }
+{
+    let p = block_at(labels, a);
+    let q = block_at(labels, b);
+    if p < q {
+        relabel(labels, p, q);
+        return;
+    }
+    if q < p {
+        relabel(labels, q, p);
+    }
+}
+
+// The labels of row 26: those of the blocks, and then, where nothing was said before, one for the ends of every edge of non-zero weight.
+fn labelled(v: Verdict, blocks: [u32; 256], ends: &[u32], edges: &[f32]) -> [u32; 256]
+    ensures { λ r. ⌜ (v ≡ Fine → Labelled (now (ends .entry)) (now (edges .entry)) blocks r) ⌝ }
+{
+    let Verdict::Fine = v else {
+        return blocks;
+    };
+    let mut labels = blocks;
+    let n = ends.len() / 2;
+    let mut k = 0;
+    while k < n {
+        if has_weight(edges, k) {
+            join(&mut labels, end_a(ends, k), end_b(ends, k));
+        }
+        k += 1;
+    }
+    labels
+}
+
+fn pose_26(labels: &[u32; 256], x: usize) -> Verdict
+    ensures { λ r. ⌜ r ≡ says (labelFaults (now (labels .entry))) x ⌝ }
+{
+    let l = block_at(labels, x);
+    numbers::asked(Verdict::Fine, l != 4294967295, 26, x)
+}
+
+// Row 26.
+fn island_rows(v: Verdict, labels: &[u32; 256], n: usize) -> Verdict
+    ensures { λ r. ⌜ r ≡ orElse v (lowest (labelFaults (now (labels .entry))) n) ⌝ }
+{
+    let Verdict::Fine = v else {
+        return v;
+    };
+    let mut x = 0;
+    while x < n {
+        let s = pose_26(labels, x);
+        let Verdict::Fine = s else {
+            return s;
+        };
+        x += 1;
+    }
+    Verdict::Fine
+}
+
 // ---- rows 12 to 14
 
 fn row_12(v: Verdict, free: u32) -> Verdict
@@ -542,7 +627,7 @@ fn settled(v: Verdict, counts: Counts) -> Checked
     }
 }
 
-// Rows 1 to 14, and the blocks.
+// Rows 1 to 14 and 26, and the blocks.
 pub fn validate_pose_graph(
     manifold: Manifold,
     poses: &[f64],
@@ -558,13 +643,15 @@ pub fn validate_pose_graph(
     let n = poses.len() / 12;
     let v = list_rows(manifold, poses, ends, edges, fixed, room);
     let v = row_13(row_12(v, free), free);
+    let blocks = b.at;
+    let labels = labelled(v, blocks, ends, edges);
+    let v = island_rows(v, &labels, n);
     let v = row_14(v, dof(manifold), free, n, room);
     let counts = Counts {
         poses: n,
         edges: ends.len() / 2,
         free,
     };
-    let blocks = b.at;
     Checks {
         answer: settled(v, counts),
         blocks,
@@ -626,7 +713,7 @@ pub fn validate_settings(s: Settings) -> Verdict
     row_19(v, s.damping)
 }
 
-// Rows 1 to 19, and the blocks.
+// Rows 1 to 19 and 26, and the blocks.
 pub fn validate_optimizer_inputs(
     manifold: Manifold,
     poses: &[f64],

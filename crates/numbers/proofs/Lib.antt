@@ -1,6 +1,7 @@
 pub mod Choices
 pub mod Tests
 pub mod Walking
+pub mod Firsts
 pub mod Rows
 pub mod Invariants
 pub mod Tables
@@ -9,6 +10,7 @@ pub mod Laying
 pub mod Parted
 pub mod Searching
 pub mod Reading
+pub mod Speaking
 pub mod Order
 pub mod Finite
 pub mod Write

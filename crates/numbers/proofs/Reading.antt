@@ -12,19 +12,19 @@ use Rattle.numbers.specs.declared.Verdict.{Verdict}
 use Rattle.numbers.specs.declared.Verdict.the-variants.{Fine, Refused}
 use Rattle.numbers.specs.Refusals.{orElse, ask, Fault, fault, askAll, says, lowest, Row, placed, read}
 
-never : {r : Refusal} → Refused r ≡ Fine → ⊥
-never e = let z : _≡_ {A = ℕ} 0 1 = cc in omega arith
+pub refused-not-fine : {r : Refusal} → Refused r ≡ Fine → ⊥
+refused-not-fine e = let z : _≡_ {A = ℕ} 0 1 = cc in omega arith
 
-or-first : (v w : Verdict) → orElse v w ≡ Fine → v ≡ Fine
+pub or-first : (v w : Verdict) → orElse v w ≡ Fine → v ≡ Fine
 or-first Fine w e = refl
 or-first (Refused r) w e = e
 
 or-second : (v w : Verdict) → orElse v w ≡ Fine → w ≡ Fine
 or-second Fine w e = e
-or-second (Refused r) w e = absurd (never e)
+or-second (Refused r) w e = absurd (refused-not-fine e)
 
 pub ask-fine : (b : Bool) (n p : ℕ) → ask b n p ≡ Fine → b ≡ false
-ask-fine true n p e = absurd (never e)
+ask-fine true n p e = absurd (refused-not-fine e)
 ask-fine false n p e = refl
 
 asked-before : (v : Verdict) (fs : List Fault) (p : ℕ) → askAll v fs p ≡ Fine → v ≡ Fine

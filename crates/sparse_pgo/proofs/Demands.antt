@@ -84,7 +84,7 @@ abbrev pub lastOf : Input → Float → Next
 lastOf i first = played (numerics (runParts i)) (i .settings .limit) (i .settings .«cost_tolerance») first (i .settings .damping) (i .poses) .next
 
 module _ (i : Input) (work32 work64 out : List Float) where
-  -- demand 1, rows 1 to 19: that refusal, and every lent number as it was
+  -- demand 1, rows 1 to 19 and 26: that refusal, and every lent number as it was
   pub demand-one-before : (r : Refusal) → checks i .answer ≡ checked.Turned r → optimized i work32 work64 out ≡ record { answer = answer.Refused r; work32 = work32; work64 = work64; out = out }
   unfolding optimized
   demand-one-before r e = rw e

@@ -16,7 +16,7 @@ use Rattle.graph.specs.Table.{blockNumber, blocksOf}
 use Rattle.graph.specs.declared.Edge.{Edge}
 use Rattle.graph.specs.declared.Slot.{Slot}
 use Rattle.graph.specs.declared.Slot.the-variants.{Block, Fixed}
-use Rattle.graph.proofs.Answers.{free-past}
+use Rattle.graph.proofs.Free.{free-past}
 use Rattle.graph.proofs.Passed.{PassedGraph, slot-same}
 
 module _ (i : Input) (p : PassedGraph i) where

@@ -47,6 +47,6 @@ afterChecks i work32 work64 out (checked.Fit c) =
       out = given out (ran i) (ran i .answer);
     }
 
--- refusals 1 to 19 change no lent number; a run that began leaves the needed work +0
+-- refusals 1 to 19 and 26 change no lent number; a run that began leaves the needed work +0
 unfoldable pub optimized : Input → List Float → List Float → List Float → After
 optimized i work32 work64 out = afterChecks i work32 work64 out (checks i .answer)

@@ -10,7 +10,7 @@ is-finite32-requires c κs = search needs
 
 returns : tie.Need-returns
 unfolding badTolerance ratio ofBits
-returns c = cc
+returns c = rw (c .is-finite32 .ensures)
 
 pub bad-tolerance-spec : {M : Type 1} → statement M
 bad-tolerance-spec = tie.close (tie.spec is-finite32-requires returns)

@@ -9,7 +9,7 @@ asked-requires : tie.Need-asked-requires
 asked-requires c κs = search needs
 
 returns : tie.Need-returns
-returns c = cc
+returns c = rw (c .asked .ensures, c .before .validate-se3 .ensures)
 
 pub edge-10-spec : {M : Type 1} → statement M
 edge-10-spec = tie.close (tie.spec validate-se3-requires asked-requires returns)

@@ -9,7 +9,7 @@ asked-requires : tie.Need-asked-requires
 asked-requires c κs = search needs
 
 returns : tie.Need-returns
-returns c = cc
+returns c = rw (c .asked .ensures, c .before .is-finite32 .ensures)
 
 pub edge-9-spec : {M : Type 1} → statement M
 edge-9-spec = tie.close (tie.spec is-finite32-requires asked-requires returns)

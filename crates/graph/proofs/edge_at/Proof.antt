@@ -27,7 +27,7 @@ at32-requires c κs = search needs
 
 returns-2 : tie.Need-returns-2
 unfolding edgeFrom
-returns-2 c = cc
+returns-2 c = rw (c .at32 .ensures, c .before .transform-at .ensures)
 
 pub edge-at-spec : {M : Type 1} → statement M
 edge-at-spec =

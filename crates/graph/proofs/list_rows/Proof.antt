@@ -15,7 +15,7 @@ fixed-rows-requires : tie.Need-fixed-rows-requires
 fixed-rows-requires c κs = search needs
 
 returns : tie.Need-returns
-returns c = cc
+returns c = rw (c .fixed-rows .ensures, c .before .edge-rows .ensures, c .before .before .pose-rows .ensures, c .before .before .before .shape-rows .ensures)
 
 pub list-rows-spec : {M : Type 1} → statement M
 list-rows-spec =

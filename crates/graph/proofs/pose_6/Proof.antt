@@ -12,7 +12,7 @@ asked-requires : tie.Need-asked-requires
 asked-requires c κs = search needs
 
 returns : tie.Need-returns
-returns c = cc
+returns c = rw (c .asked .ensures, c .before .validate-pose .ensures, c .before .before .pose-at .ensures)
 
 pub pose-6-spec : {M : Type 1} → statement M
 pose-6-spec = tie.close (tie.spec pose-at-requires validate-pose-requires asked-requires returns)

@@ -30,7 +30,7 @@ vec3-at-requires-4 c κs = search needs
 
 returns-2 : tie.Need-returns-2
 unfolding poseFrom
-returns-2 c = cc
+returns-2 c = rw (c .vec3-at4 .ensures, c .before .vec3-at3 .ensures, c .before .before .vec3-at2 .ensures, c .before .before .before .vec3-at .ensures)
 
 pub pose-at-spec : {M : Type 1} → statement M
 pose-at-spec =

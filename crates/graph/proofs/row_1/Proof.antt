@@ -9,7 +9,7 @@ asked-requires : tie.Need-asked-requires
 asked-requires c κs = search needs
 
 returns : tie.Need-returns
-returns c = cc
+returns c = rw (c .asked .ensures, c .before .bad-gravity .ensures)
 
 pub row-1-spec : {M : Type 1} → statement M
 row-1-spec = tie.close (tie.spec bad-gravity-requires asked-requires returns)

@@ -31,7 +31,7 @@ asked-requires c κs = search needs
 
 returns : tie.Need-returns
 unfolding shortWork
-returns c = cc
+returns c = rw (c .asked .ensures)
 
 pub row-14-spec : {M : Type 1} → statement M
 row-14-spec = tie.close (tie.spec mul-n add-asked mul-asked mul-asked-2 asked-requires returns)

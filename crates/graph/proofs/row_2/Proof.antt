@@ -11,7 +11,7 @@ asked-requires c κs = search needs
 
 returns : tie.Need-returns
 unfolding unfit
-returns c = cc
+returns c = rw (c .asked .ensures)
 
 pub row-2-spec : {M : Type 1} → statement M
 row-2-spec = tie.close (tie.spec mul-unfit asked-requires returns)

@@ -8,7 +8,7 @@ asked-requires c κs = search needs
 
 returns : tie.Need-returns
 unfolding tooMany
-returns c = cc
+returns c = rw (c .asked .ensures)
 
 pub row-3-spec : {M : Type 1} → statement M
 row-3-spec = tie.close (tie.spec asked-requires returns)

@@ -18,7 +18,7 @@ row-5-requires : tie.Need-row-5-requires
 row-5-requires c κs = search needs
 
 returns : tie.Need-returns
-returns c = cc
+returns c = rw (c .row-5 .ensures, c .before .row-4 .ensures, c .before .before .row-3 .ensures, c .before .before .before .row-2 .ensures, c .before .before .before .before .row-1 .ensures)
 
 pub shape-rows-spec : {M : Type 1} → statement M
 shape-rows-spec =

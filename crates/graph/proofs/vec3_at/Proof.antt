@@ -27,7 +27,7 @@ at64-requires-3 : tie.Need-at64-requires-3
 at64-requires-3 c κs = search needs
 
 returns : tie.Need-returns
-returns c = cc
+returns c = rw (c .at643 .ensures, c .before .at642 .ensures, c .before .before .at64 .ensures)
 
 pub vec3-at-spec : {M : Type 1} → statement M
 vec3-at-spec =

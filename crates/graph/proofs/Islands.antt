@@ -1,0 +1,109 @@
+-- Row 26's test means the paths: `joined-means`, `reaches-means`, `loose-means`. Assumes nothing.
+use Prim.Native.Nat.{ℕ, zero, suc, _<_}
+use native.Mathlib.Omega.{arith}
+use native.Mathlib.Nat.{not-suc-le-zero, eq-or-lt-of-le, le-of-suc-le-suc}
+use mathlib.Core.Path.{_≡_, refl, sym, subst, _∙_}
+use mathlib.Core.Logic.{_⊎_, inl, inr, ⊎-elim}
+use mathlib.Core.Bool.{Bool, true, false, not, _&&_, _||_, true≢false}
+use borrow.Author.Tests.{eqb-true, eq-eqb}
+use Rattle.numbers.specs.Walks.{some}
+use Rattle.numbers.proofs.Tests.{and-first, and-second}
+use Rattle.numbers.proofs.Walking.{some-hit}
+use Rattle.numbers.proofs.Firsts.{some-found}
+use Rattle.graph.specs.declared.Edge.{Edge}
+use Rattle.graph.specs.Graph.{Graph, isFree}
+use Rattle.graph.specs.Islands.{weighs, Path, here, along, against, Reaches, Loose, joined, reaches, isLoose}
+
+either : (a b : Bool) → (a || b) ≡ true → (a ≡ true) ⊎ (b ≡ true)
+either true b e = inl refl
+either false b e = inr e
+
+module _ {P : Type 0} (g : Graph P Edge) where
+  -- two paths, one after the other
+  pub then-path : {x y z : ℕ} → Path g x y → Path g y z → Path g x z
+  then-path here q = q
+  then-path (along k l w p) q = along k l w (then-path p q)
+  then-path (against k l w p) q = against k l w (then-path p q)
+
+  -- ---- the test says only what paths say
+  joined-path : (k : ℕ) → (k < suc (g .edges)) → (x y : ℕ) → joined g k x y ≡ true → Path g x y
+  unfolding joined
+  joined-path zero l x y e = subst (λ (z : ℕ). Path g x z) (eqb-true x y e) here
+  joined-path (suc k) l x y e =
+      ⊎-elim
+      (λ (h : joined g k x y ≡ true). joined-path k (omega arith) x y h)
+      (λ (h : (weighs g k && (joined g k x (g .a k) && joined g k (g .b k) y || joined g k x (g .b k) && joined g k (g .a k) y)) ≡ true).
+      let w = and-first (weighs g k) _ h in
+      ⊎-elim
+      (λ (f : (joined g k x (g .a k) && joined g k (g .b k) y) ≡ true).
+      then-path (joined-path k (omega arith) x (g .a k) (and-first _ _ f))
+      (along k (omega arith) w (joined-path k (omega arith) (g .b k) y (and-second (joined g k x (g .a k)) _ f))))
+      (λ (f : (joined g k x (g .b k) && joined g k (g .a k) y) ≡ true).
+      then-path (joined-path k (omega arith) x (g .b k) (and-first _ _ f))
+      (against k (omega arith) w (joined-path k (omega arith) (g .a k) y (and-second (joined g k x (g .b k)) _ f))))
+      (either _ _ (and-second (weighs g k) _ h)))
+      (either _ _ e)
+
+  -- ---- and all of it
+  joined-here : (k x : ℕ) → joined g k x x ≡ true
+  unfolding joined
+  joined-here zero x = eq-eqb x x refl
+  joined-here (suc k) x = rw (joined-here k x)
+
+  swap : (p q s t : Bool) → (p || (true && q || s && p)) ≡ (q || (t && q || true && p))
+  swap true true s t = refl
+  swap true false s true = refl
+  swap true false s false = refl
+  swap false true s t = refl
+  swap false false true true = refl
+  swap false false true false = refl
+  swap false false false true = refl
+  swap false false false false = refl
+
+  -- the ends of an edge are joined to the same poses
+  pub joined-ends : (n k : ℕ) → k < n → weighs g k ≡ true → (y : ℕ) → joined g n (g .a k) y ≡ joined g n (g .b k) y
+  unfolding joined
+  joined-ends zero k l w y = absurd (not-suc-le-zero l)
+  joined-ends (suc n) k l w y =
+      ⊎-elim
+      (λ (e : k ≡ n). let v : weighs g n ≡ true = subst (λ (j : ℕ). weighs g j ≡ true) e w in
+      rw (e, v, joined-here n (g .a n), joined-here n (g .b n))
+      (swap (joined g n (g .a n) y) (joined g n (g .b n) y) (joined g n (g .a n) (g .b n)) (joined g n (g .b n) (g .a n))))
+      (λ (h : k < n). rw (joined-ends n k h w y, joined-ends n k h w (g .a n), joined-ends n k h w (g .b n)))
+      (eq-or-lt-of-le (le-of-suc-le-suc l))
+
+  path-joined : {x y : ℕ} → Path g x y → joined g (g .edges) x y ≡ true
+  path-joined {x} here = joined-here (g .edges) x
+  path-joined {y = y} (along k l w p) = joined-ends (g .edges) k l w y ∙ path-joined p
+  path-joined {y = y} (against k l w p) = sym (joined-ends (g .edges) k l w y) ∙ path-joined p
+
+  pub joined-means : (x y : ℕ) → (joined g (g .edges) x y ≡ true → Path g x y) × (Path g x y → joined g (g .edges) x y ≡ true)
+  joined-means x y = (joined-path (g .edges) (omega arith) x y, λ p. path-joined p)
+
+  pub reaches-means : (x : ℕ) → (reaches g x ≡ true → Reaches g x) × (Reaches g x → reaches g x ≡ true)
+  unfolding reaches
+  reaches-means x = (
+    λ e. let f = some-found (λ y. g .fixed y && joined g (g .edges) x y) (g .poses) e in
+        let y = f .place in
+        let h = f .first .holds in
+        record { pose = y; below = f .first .below; fixed = and-first _ _ h; path = joined-means x y .0 (and-second (g .fixed y) _ h) },
+    λ r. some-hit (λ y. g .fixed y && joined g (g .edges) x y) (r .pose) (g .poses) (r .below) (rw (r .fixed) (joined-means x (r .pose) .1 (r .path))),
+  )
+
+  -- the law of row 26: the test holds exactly of the loose poses
+  pub loose-means : (x : ℕ) → (isLoose g x ≡ true → Loose g x) × (Loose g x → isLoose g x ≡ true)
+  unfolding isLoose
+  loose-means x = (
+    λ e. record { free = and-first _ _ e; no-path = λ r. no (isFree g x) (reaches g x) e (reaches-means x .1 r) },
+    λ l. yes (isFree g x) (reaches g x) (l .free) (λ r. l .no-path (reaches-means x .0 r)),
+  )
+    where
+      no : (f r : Bool) → (f && not r) ≡ true → r ≡ true → ⊥
+      no true true e h = true≢false (sym e)
+      no true false e h = true≢false (sym h)
+      no false r e h = true≢false (sym e)
+
+      yes : (f r : Bool) → f ≡ true → (r ≡ true → ⊥) → (f && not r) ≡ true
+      yes true true e n = absurd (n refl)
+      yes true false e n = refl
+      yes false r e n = e
