@@ -6,10 +6,10 @@ use restated::case::Case;
 use restated::random::Random;
 
 use crate::buffers::stale32;
-use crate::tally::Checked;
+use crate::tally::{Checked, Tally};
 
 /// Assembly asks nothing of the output and the f64 work: both are put right first.
-pub fn check_assembly(random: &mut Random, mut case: Case) -> Checked {
+pub fn check_assembly(random: &mut Random, mut case: Case, tally: &mut Tally) -> Checked {
     case.out = case.poses.len();
     case.work64 = case.need64();
     let expected = assembled(&case);
@@ -20,6 +20,7 @@ pub fn check_assembly(random: &mut Random, mut case: Case) -> Checked {
         Ok(needed) => (0, needed.as_slice()),
         Err(number) => (*number, &[][..]),
     };
+    tally.count_assembly(number);
     let mut after = needed.to_vec();
     after.extend_from_slice(&before[needed.len()..]);
     let mut lines = Vec::new();

@@ -6,6 +6,7 @@ use restated::forced::forced;
 use restated::graphs::{any_gravity, far, grid, large, ring};
 use restated::layers::NAMES;
 use restated::limits::limits;
+use restated::pieces::islands;
 use restated::random::Random;
 use restated::samples::samples;
 use restated::wild::wild;
@@ -53,6 +54,7 @@ pub fn kinds() -> Vec<Kind> {
         |n| n / 20 + 1,
         |r, _, t| graph(r, t, large, true),
     ));
+    list.extend(island_kinds());
     list
 }
 
@@ -72,6 +74,17 @@ fn run_kinds() -> Vec<Kind> {
             "limits",
             |_| limits(&mut Random::of_case(1, 1, 1)).len(),
             limit,
+        ),
+    ]
+}
+
+fn island_kinds() -> Vec<Kind> {
+    vec![
+        kind("islands", |n| n, |r, _, t| graph(r, t, islands, false)),
+        kind(
+            "gravity-islands",
+            |n| n,
+            |r, _, t| graph(r, t, islands, true),
         ),
     ]
 }
@@ -120,7 +133,7 @@ fn graph(r: &mut Random, t: &mut Tally, make: Maker, gravity: bool) -> Option<Ch
     Some(check_run(r, &case, t))
 }
 
-/// A sample of document 01, also against what the page itself says.
+/// A sample of the documents, also against what the page itself says.
 fn sample(r: &mut Random, index: usize, t: &mut Tally) -> Option<Checked> {
     let (case, said) = samples().into_iter().nth(index)?;
     let mut checked = check_run(r, &case, t);
@@ -128,13 +141,14 @@ fn sample(r: &mut Random, index: usize, t: &mut Tally) -> Option<Checked> {
     let differs = |said: Option<u32>, got: u32| said.is_some_and(|said| said != got);
     let cost = said.first_cost.map(f32::to_bits);
     if differs(said.number, e.answer[0])
+        || differs(said.place, e.answer[1])
         || differs(said.iterations, e.answer[2])
         || differs(said.stop, e.answer[7])
         || cost.is_some_and(|cost| e.costs.is_none_or(|costs| costs[0].to_bits() != cost))
     {
         checked
             .lines
-            .push(format!("document 01 says {said:?}, got {:?}", e.answer));
+            .push(format!("the page says {said:?}, got {:?}", e.answer));
     }
     Some(checked)
 }
@@ -154,14 +168,15 @@ fn limit(r: &mut Random, index: usize, t: &mut Tally) -> Option<Checked> {
 }
 
 /// Graphs of every kind, faulty ones among them, for assembly alone.
-fn assembly(r: &mut Random, index: usize, _: &mut Tally) -> Option<Checked> {
+fn assembly(r: &mut Random, index: usize, t: &mut Tally) -> Option<Checked> {
     let gravity = r.one_in(2).then(|| any_gravity(r));
-    let case = match r.below(5) {
+    let case = match r.below(6) {
         0 => ring(r, gravity),
         1 => grid(r, gravity),
         2 => far(r, gravity),
         3 => wild(r, gravity),
+        4 => islands(r, gravity),
         _ => faulty(r, index),
     };
-    Some(check_assembly(r, case))
+    Some(check_assembly(r, case, t))
 }

@@ -1,5 +1,5 @@
 //! The original beside the port on random inputs: `compare N SEED [KIND [INDEX]]`.
-//! Exit status 0 where all agree, 1 where anything differs, 2 for bad arguments.
+//! Exit status 0 where all agree, 1 where anything differs or is not met, 2 for bad arguments.
 
 mod assembly;
 mod buffers;
@@ -27,6 +27,9 @@ struct Asked {
 /// How many differing cases of one kind are printed in full; of the others only the line.
 const IN_FULL: usize = 10;
 
+/// From this N on a comparison of all kinds must have met every row and every stop.
+const MEETS_ALL: usize = 400;
+
 fn number<T: std::str::FromStr>(name: &str, given: Option<&String>) -> Result<T, String> {
     let text = given.ok_or_else(|| format!("{name} is missing"))?;
     text.parse()
@@ -38,6 +41,9 @@ fn asked(arguments: &[String]) -> Result<Asked, String> {
         return Err("too many arguments".into());
     }
     let index = arguments.get(3);
+    if arguments.first().is_some_and(|n| n == "0") {
+        return Err("N is 0: nothing would be compared".into());
+    }
     Ok(Asked {
         count: number("N", arguments.first())?,
         seed: number("SEED", arguments.get(1))?,
@@ -81,11 +87,18 @@ fn compare(asked: &Asked) -> ExitCode {
         }
     }
     tally.print();
-    if tally.differing == 0 {
-        println!("no difference");
+    let all = asked.kind.is_none() && asked.count >= MEETS_ALL;
+    let missing = if all { tally.missing() } else { Vec::new() };
+    if !missing.is_empty() {
+        println!("not met: {}", missing.join(", "));
+    }
+    match tally.differing {
+        0 => println!("no difference"),
+        count => println!("{count} cases differ"),
+    }
+    if tally.differing == 0 && missing.is_empty() {
         ExitCode::SUCCESS
     } else {
-        println!("{} cases differ", tally.differing);
         ExitCode::from(1)
     }
 }

@@ -111,7 +111,7 @@ fn pose_lines(e: &Expected, before: &Buffers, after: &Buffers, tally: &mut Tally
     }
 }
 
-/// Untouched by a refusal before 20; else the needed work is +0 and the rest untouched.
+/// Untouched by a refusal before the run; else the needed work is +0 and the rest untouched.
 fn work_lines(e: &Expected, case: &Case, before: &Buffers, after: &Buffers) -> Vec<String> {
     let (need32, need64) = match e.begun() {
         true => (case.need32(), case.need64()),
@@ -136,7 +136,7 @@ fn work_lines(e: &Expected, case: &Case, before: &Buffers, after: &Buffers) -> V
 /// The original with its hooks forced against the decisions alone.
 pub fn check_forced(case: &Case, forced: &Forced, tally: &mut Tally) -> Checked {
     let e = expected_forced(case, Some(forced));
-    tally.count(&e.answer, e.list.as_ref());
+    tally.count_hooked(&e.answer, e.list.as_ref());
     let mut lines = e.doubts.clone();
     if let Some(list) = &e.list {
         lines.extend(check_list(list));

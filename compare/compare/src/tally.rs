@@ -1,6 +1,10 @@
-//! What was met over all cases: refusals, stops, events, and the largest difference of pose numbers.
+//! What was met over all cases: refusals, stops, events, and the largest difference of pose
+//! numbers; and what should have been met and was not.
+
+use std::collections::BTreeMap;
 
 use restated::decide::{Event, List};
+use restated::table::{IN_THE_RUN, ORDER};
 
 /// One case's differences; no lines means none.
 pub struct Checked {
@@ -24,12 +28,48 @@ impl Checked {
 #[derive(Default)]
 pub struct Tally {
     pub differing: usize,
-    pub refusals: [usize; 23],
+    answers: Answers,
+    hooked: Answers,
+    assemblies: Answers,
     stops: [usize; 6],
     events: [usize; 7],
-    late_refusals: usize,
+    /// Refusals by 21 and by 22 after a trial that was accepted or rejected.
+    late: [usize; 2],
     sums: [u64; 3],
     largest: f64,
+}
+
+/// How often each number came, 0 for no refusal.
+#[derive(Default)]
+struct Answers(BTreeMap<u32, usize>);
+
+impl Answers {
+    fn add(&mut self, number: u32) {
+        *self.0.entry(number).or_default() += 1;
+    }
+
+    fn of(&self, number: u32) -> usize {
+        self.0.get(&number).copied().unwrap_or(0)
+    }
+
+    fn line(&self, rows: &[u32]) -> String {
+        let counts: Vec<_> = rows
+            .iter()
+            .map(|row| format!("{row}:{}", self.of(*row)))
+            .collect();
+        format!("{}, refused by row {}", self.of(0), counts.join(" "))
+    }
+}
+
+/// The rows that a run may give, in their order.
+fn run_rows() -> Vec<u32> {
+    [ORDER.as_slice(), &IN_THE_RUN].concat()
+}
+
+/// The rows that assembly alone may give: up to 14, and 21.
+fn assembly_rows() -> Vec<u32> {
+    let asked = ORDER.iter().copied().take_while(|row| *row != 15);
+    asked.chain([21]).collect()
 }
 
 const STOPS: [&str; 6] = ["-", "Budget", "Gradient", "Step", "Cost", "Damping"];
@@ -46,21 +86,55 @@ const EVENTS: [&str; 7] = [
 impl Tally {
     /// Counts one run's expected answer.
     pub fn count(&mut self, answer: &[u32; 8], list: Option<&List>) {
-        let number = answer[0] as usize;
-        if let Some(count) = self.refusals.get_mut(number) {
-            *count += 1;
-        }
+        let number = answer[0];
+        self.answers.add(number);
         if number == 0 {
             self.stops[answer[7] as usize] += 1;
         }
+        let events = list.map_or(&[][..], |list| &list.events);
+        let tried = events.iter().any(|e| matches!(e, Event::Trial { .. }));
+        for (late, row) in self.late.iter_mut().zip([21, 22]) {
+            *late += usize::from(number == row && tried);
+        }
+        self.count_events(answer, events);
+    }
+
+    /// Counts one run of the hooked original, whose list alone the port is given.
+    pub fn count_hooked(&mut self, answer: &[u32; 8], list: Option<&List>) {
+        self.hooked.add(answer[0]);
+        let events = list.map_or(&[][..], |list| &list.events);
+        self.count_events(answer, events);
+    }
+
+    fn count_events(&mut self, answer: &[u32; 8], events: &[Event]) {
         for (sum, n) in self.sums.iter_mut().zip(&answer[4..7]) {
             *sum += u64::from(*n);
         }
-        let events = list.map_or(&[][..], |list| &list.events);
-        self.late_refusals += usize::from(number == 21 && events.len() > 1);
         for event in events {
             self.events[event_number(event)] += 1;
         }
+    }
+
+    pub fn count_assembly(&mut self, number: u32) {
+        self.assemblies.add(number);
+    }
+
+    /// What a comparison should meet and this one did not: rows, stops, 21 late in a run, 26 in
+    /// assembly.
+    pub fn missing(&self) -> Vec<String> {
+        let rows = run_rows().into_iter();
+        let rows = rows.filter(|row| self.answers.of(*row) == 0);
+        let stops = STOPS.iter().zip(&self.stops).skip(1);
+        let stops = stops.filter(|(_, count)| **count == 0);
+        let others = [
+            ("21 after a trial", self.late[0]),
+            ("26 in assembly alone", self.assemblies.of(26)),
+        ];
+        let others = others.iter().filter(|(_, count)| *count == 0);
+        let rows = rows.map(|row| format!("row {row}"));
+        rows.chain(stops.map(|(name, _)| format!("stop {name}")))
+            .chain(others.map(|(name, _)| format!("row {name}")))
+            .collect()
     }
 
     pub fn measure(&mut self, a: &[f64], b: &[f64]) {
@@ -73,17 +147,11 @@ impl Tally {
     }
 
     pub fn print(&self) {
-        let rows = self.refusals.iter().enumerate().skip(1);
-        let rows: Vec<_> = rows.map(|(row, count)| format!("{row}:{count}")).collect();
-        println!(
-            "runs finished {}, refused by row {}",
-            self.refusals[0],
-            rows.join(" ")
-        );
-        println!(
-            "refused by 21 after a trial or a failed solve: {}",
-            self.late_refusals
-        );
+        println!("runs finished {}", self.answers.line(&run_rows()));
+        let [late21, late22] = self.late;
+        println!("refused after a trial by 21: {late21}, by 22: {late22}");
+        println!("hooked runs finished {}", self.hooked.line(&IN_THE_RUN));
+        println!("assemblies done {}", self.assemblies.line(&assembly_rows()));
         println!("stops: {}", named(&STOPS[1..], &self.stops[1..]));
         println!("events: {}", named(&EVENTS, &self.events));
         let [accepted, rejected, failed] = self.sums;

@@ -5,7 +5,7 @@ use original_hooked as rust;
 use crate::case::Case;
 use crate::table::refused_graph;
 
-/// The number of rows 1 to 14 or 21, or the needed work as it must be.
+/// The number of rows 1 to 14, 26 or 21, or the needed work as it must be.
 pub fn assembled(case: &Case) -> Result<Vec<f32>, u32> {
     if let Some(refusal) = refused_graph(case) {
         return Err(refusal.number);

@@ -91,10 +91,15 @@ impl Case {
         self.gravity.map(|g| vector(&g))
     }
 
-    /// Free: some edge names it and it is not fixed.
+    /// Some edge names it, of whatever weight, and it is not fixed.
+    pub fn is_free(&self, pose: usize) -> bool {
+        let pose = pose as u32;
+        self.ends.contains(&pose) && !self.fixed.contains(&pose)
+    }
+
     pub fn free_count(&self) -> usize {
-        let free = |i: &u32| self.ends.contains(i) && !self.fixed.contains(i);
-        (0..self.pose_count() as u32).filter(free).count()
+        let poses = 0..self.pose_count();
+        poses.filter(|pose| self.is_free(*pose)).count()
     }
 
     /// n, the number of unknowns.

@@ -7,7 +7,7 @@ use original_hooked::{Forced, Record};
 use crate::case::{pose_numbers, Case, Owned};
 use crate::decide::{refusal_answer, Ending, List};
 use crate::run::{run, Told};
-use crate::table::{refused, Refusal, PORTS_OWN};
+use crate::table::{position, refused, Refusal, ORDER, PORTS_OWN};
 use crate::{all_same64, same32};
 
 #[derive(Clone, Debug)]
@@ -25,9 +25,9 @@ pub struct Expected {
 }
 
 impl Expected {
-    /// Rows 20 and above, and success: the run began.
+    /// Success, and the rows that are not asked before a run: the run began.
     pub fn begun(&self) -> bool {
-        self.answer[0] == 0 || self.answer[0] >= 20
+        !ORDER.contains(&self.answer[0])
     }
 }
 
@@ -145,7 +145,9 @@ fn refusal_doubts(case: &Case, refusal: Option<Refusal>) -> Vec<String> {
     let original = originals_row(case, &owned);
     let agree = match refusal {
         None => original.is_none(),
-        Some(r) if PORTS_OWN.contains(&r.number) => original.is_none_or(|row| row > r.number),
+        Some(r) if PORTS_OWN.contains(&r.number) => {
+            original.is_none_or(|row| position(row) > position(r.number))
+        }
         Some(r) => original == Some(r.number) && originals_place(&owned, r.number) == r.place,
     };
     let say = || format!("table {refusal:?}, the original's row {original:?}");

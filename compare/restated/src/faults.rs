@@ -1,13 +1,14 @@
-//! Inputs with one fault or several, so that every row of the refusal table from 1 to 19 is met, alone and
-//! before others.
+//! Inputs with one fault or several, so that every row of the refusal table from 1 to 19, and 26,
+//! is met, alone and before others.
 
 use crate::case::Case;
 use crate::graphs::{any_gravity, grid, ring};
 use crate::random::Random;
+use crate::table::ORDER;
 
-/// A good graph with the fault of the row that the index asks for, and often further faults.
+/// A good graph with the fault of the row that the index leads to, and often further faults.
 pub fn faulty(random: &mut Random, index: usize) -> Case {
-    let row = 1 + index % 19;
+    let row = ORDER[index % ORDER.len()];
     let gravity = (row == 1 || random.one_in(3)).then(|| any_gravity(random));
     let mut case = if random.one_in(2) {
         ring(random, gravity)
@@ -15,12 +16,12 @@ pub fn faulty(random: &mut Random, index: usize) -> Case {
         grid(random, gravity)
     };
     if row != 1 && random.one_in(3) {
-        let first = 1 + random.below(19);
+        let first = random.pick(&ORDER);
         inject(random, &mut case, first);
     }
     inject(random, &mut case, row);
     if random.one_in(3) {
-        let more = 1 + random.below(19);
+        let more = random.pick(&ORDER);
         inject(random, &mut case, more);
     }
     case
@@ -29,19 +30,24 @@ pub fn faulty(random: &mut Random, index: usize) -> Case {
 const NOT_FINITE32: [f32; 3] = [f32::NAN, f32::INFINITY, f32::NEG_INFINITY];
 const NOT_FINITE64: [f64; 3] = [f64::NAN, f64::INFINITY, f64::NEG_INFINITY];
 
+const IDENTITY: [f64; 12] = [1.0, 0.0, 0.0, 0.0, 1.0, 0.0, 0.0, 0.0, 1.0, 0.0, 0.0, 0.0];
+/// An edge's numbers: no turn, one ahead, weight 1.
+const AHEAD: [f32; 8] = [0.0, 0.0, 0.0, 1.0, 1.0, 0.0, 0.0, 1.0];
+
 /// The next f32 above 1e10.
 const ABOVE_LIMIT: f32 = f32::from_bits(0x501502FA);
 
-fn inject(random: &mut Random, case: &mut Case, row: usize) {
+pub(crate) fn inject(random: &mut Random, case: &mut Case, row: u32) {
     match row {
         1..=5 => inject_shape(random, case, row),
         6..=11 => inject_graph(random, case, row),
         12..=14 => inject_sizes(random, case, row),
+        26 => inject_island(random, case),
         _ => inject_settings(random, case, row),
     }
 }
 
-fn inject_shape(random: &mut Random, case: &mut Case, row: usize) {
+fn inject_shape(random: &mut Random, case: &mut Case, row: u32) {
     match row {
         1 if case.gravity.is_some() => case.gravity = Some(bad_gravity(random)),
         2 => bad_length(random, case),
@@ -90,13 +96,13 @@ fn too_many(random: &mut Random, case: &mut Case) {
         1 => {
             let count = random.between(1025, 1030);
             case.ends = [0, 1].repeat(count);
-            case.edges = [0.0, 0.0, 0.0, 1.0, 1.0, 0.0, 0.0, 1.0].repeat(count);
+            case.edges = AHEAD.repeat(count);
         }
         _ => case.fixed = vec![0; random.between(257, 300)],
     }
 }
 
-fn inject_graph(random: &mut Random, case: &mut Case, row: usize) {
+fn inject_graph(random: &mut Random, case: &mut Case, row: u32) {
     if row == 6 && !case.poses.is_empty() {
         let at = random.below(case.poses.len());
         case.poses[at] = random.pick(&NOT_FINITE64);
@@ -113,13 +119,13 @@ fn inject_graph(random: &mut Random, case: &mut Case, row: usize) {
         let edge = random.below(case.edge_count());
         inject_edge(random, case, row, edge);
         if random.one_in(2) {
-            let other = random.between(7, 10);
+            let other = random.pick(&[7, 8, 9, 10]);
             inject_edge(random, case, other, edge);
         }
     }
 }
 
-fn inject_edge(random: &mut Random, case: &mut Case, row: usize, edge: usize) {
+fn inject_edge(random: &mut Random, case: &mut Case, row: u32, edge: usize) {
     let beyond = case.pose_count() as u32;
     let end = edge * 2 + random.below(2);
     match row {
@@ -142,7 +148,7 @@ fn inject_measured(random: &mut Random, case: &mut Case, edge: usize) {
     }
 }
 
-fn inject_sizes(random: &mut Random, case: &mut Case, row: usize) {
+fn inject_sizes(random: &mut Random, case: &mut Case, row: u32) {
     match row {
         12 => case.fixed = (0..case.pose_count() as u32).collect(),
         13 => many_free(random, case),
@@ -158,15 +164,59 @@ fn inject_sizes(random: &mut Random, case: &mut Case, row: usize) {
 /// More than 64 free poses: a star of them, work to suit.
 fn many_free(random: &mut Random, case: &mut Case) {
     let count = random.between(66, 80) as u32;
-    let identity = [1.0, 0.0, 0.0, 0.0, 1.0, 0.0, 0.0, 0.0, 1.0, 0.0, 0.0, 0.0];
-    case.poses = identity.repeat(count as usize);
+    case.poses = IDENTITY.repeat(count as usize);
     case.ends = (1..count).flat_map(|i| [0, i]).collect();
-    case.edges = [0.0, 0.0, 0.0, 1.0, 1.0, 0.0, 0.0, 1.0].repeat(count as usize - 1);
+    case.edges = AHEAD.repeat(count as usize - 1);
     case.fixed = vec![0];
     case.fit();
 }
 
-fn inject_settings(random: &mut Random, case: &mut Case, row: usize) {
+/// A free pose without a path to a fixed one; work that was short stays so.
+fn inject_island(random: &mut Random, case: &mut Case) {
+    match random.below(4) {
+        0 => case.fixed.clear(),
+        1 => cut_off(random, case),
+        2 => cut_all(random, case),
+        _ => add_island(random, case),
+    }
+}
+
+/// All edges of one pose get weight 0.
+fn cut_off(random: &mut Random, case: &mut Case) {
+    let Some(pose) = case.ends.get(random.below(case.ends.len().max(1))).copied() else {
+        return;
+    };
+    let zero = random.pick(&[0.0, -0.0]);
+    let pairs = case
+        .ends
+        .chunks_exact(2)
+        .zip(case.edges.chunks_exact_mut(8));
+    for (ends, numbers) in pairs {
+        if ends.contains(&pose) {
+            numbers[7] = zero;
+        }
+    }
+}
+
+fn cut_all(random: &mut Random, case: &mut Case) {
+    for numbers in case.edges.chunks_exact_mut(8) {
+        numbers[7] = random.pick(&[0.0, -0.0]);
+    }
+}
+
+/// Two poses more, joined to each other alone.
+fn add_island(random: &mut Random, case: &mut Case) {
+    let (next, need) = (case.pose_count() as u32, case.need32());
+    case.poses.extend(IDENTITY.repeat(2));
+    case.ends
+        .extend(random.pick(&[[next, next + 1], [next + 1, next]]));
+    case.edges.extend(AHEAD);
+    case.out += 24;
+    case.work64 += 48;
+    case.work32 += case.need32() - need;
+}
+
+fn inject_settings(random: &mut Random, case: &mut Case, row: u32) {
     let bad_tolerance = [f32::NAN, f32::INFINITY, f32::NEG_INFINITY, -1.0, -1e-45];
     match row {
         15 => case.limit = 0,
@@ -195,15 +245,17 @@ mod tests {
 
     #[test]
     fn every_row_is_met_and_the_original_agrees() {
-        let mut met = [0; 23];
-        for index in 0..380 {
+        let mut met = [0; 27];
+        for index in 0..400 {
             let mut random = Random::of_case(1, 5, index as u64);
             let case = faulty(&mut random, index);
             let e = expected(&case);
             assert!(e.doubts.is_empty(), "{index}: {:?} {case:?}", e.doubts);
             met[e.answer[0] as usize] += 1;
         }
-        assert!(met[1..=19].iter().all(|count| *count > 0), "{met:?}");
+        println!("{met:?}");
+        let all = ORDER.iter().all(|row| met[*row as usize] > 0);
+        assert!(all, "{met:?}");
     }
 
     #[test]

@@ -5,14 +5,10 @@ use original_hooked::Forced;
 use crate::case::Case;
 use crate::graphs::{any_gravity, far, ring};
 use crate::random::Random;
+use crate::table::refused;
 
 pub fn forced(random: &mut Random) -> (Case, Forced) {
-    let gravity = random.one_in(2).then(|| any_gravity(random));
-    let mut case = if random.one_in(2) {
-        ring(random, gravity)
-    } else {
-        far(random, gravity)
-    };
+    let mut case = passing(random);
     case.limit = random.pick(&[1, 2, 5, 20]);
     let forced = Forced {
         factorization_failures: random.pick(&[0, 0, 1, 2, 9, 10, 11, 12, 13, 55]),
@@ -20,6 +16,21 @@ pub fn forced(random: &mut Random) -> (Case, Forced) {
         step: step(random, case.dof(), case.unknowns()),
     };
     (case, forced)
+}
+
+/// A graph that no row turns down.
+fn passing(random: &mut Random) -> Case {
+    loop {
+        let gravity = random.one_in(2).then(|| any_gravity(random));
+        let case = if random.one_in(2) {
+            ring(random, gravity)
+        } else {
+            far(random, gravity)
+        };
+        if refused(&case).is_none() {
+            return case;
+        }
+    }
 }
 
 /// No step; a step of nothing, one too small, one of any size; one whose turns are too far to be taken, or whose

@@ -1,5 +1,6 @@
-//! What the port adds to the Rust, stated once more in Rust from document 01: the refusal table, the decisions,
-//! the counts and the stop reasons; and the random inputs that the programs of this workspace share.
+//! What the port adds to the Rust, stated once more in Rust from documents 01 and 02: the refusal
+//! table, the decisions, the counts and the stop reasons; and the random inputs that the programs
+//! of this workspace share.
 
 pub mod assembly;
 pub mod case;
@@ -8,10 +9,12 @@ pub mod expect;
 pub mod faults;
 pub mod forced;
 pub mod graphs;
+pub mod islands;
 pub mod layer_inputs;
 pub mod layers;
 pub mod limits;
 pub mod lists;
+pub mod pieces;
 pub mod places;
 pub mod random;
 pub mod run;

@@ -2,6 +2,7 @@
 
 use crate::case::Case;
 use crate::graphs::calm_ring;
+use crate::pieces::full_chain;
 use crate::random::Random;
 use crate::samples::two_poses;
 
@@ -47,6 +48,7 @@ pub fn limits(random: &mut Random) -> Vec<(Case, u32)> {
     list.extend([(repeated_edge(1024), 0), (repeated_edge(1025), 3)]);
     list.extend([(idle_poses(256), 0), (idle_poses(257), 3)]);
     list.extend([(repeated_fixed(256), 0), (repeated_fixed(257), 3)]);
+    list.extend([(full_chain(random, 1.0), 0), (full_chain(random, -0.0), 26)]);
     list.extend(work_limits(random));
     list
 }

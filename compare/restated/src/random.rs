@@ -41,6 +41,12 @@ impl Random {
         from[self.below(from.len())]
     }
 
+    pub fn shuffle<T>(&mut self, list: &mut [T]) {
+        for last in (1..list.len()).rev() {
+            list.swap(self.below(last + 1), last);
+        }
+    }
+
     /// From 0 up to but not including 1.
     pub fn unit(&mut self) -> f64 {
         (self.next() >> 11) as f64 / (1u64 << 53) as f64

@@ -10,7 +10,7 @@ use crate::table::Refusal;
 
 const STEP_TOLERANCE: f32 = 1e-6;
 
-/// What happened in a run that passed rows 1 to 19.
+/// What happened in a run that passed rows 1 to 19 and 26.
 pub struct Told {
     /// The machine as it ended; none where the first cost can't be had.
     pub machine: Result<Machine, Refusal>,

@@ -1,11 +1,15 @@
-//! Document 01's sample joins that are whole runs, with the numbers that the page gives.
+//! Document 01's sample joins that are whole runs, with the numbers that the page gives, amended by
+//! document 02; and document 02's two passes of which one has no fixed pose.
 
 use crate::case::Case;
+use crate::graphs::{calm_ring, push_edge};
+use crate::random::Random;
 
 /// What the page says of a sample; none where it is silent.
 #[derive(Clone, Debug, Default)]
 pub struct Said {
     pub number: Option<u32>,
+    pub place: Option<u32>,
     pub first_cost: Option<f32>,
     pub iterations: Option<u32>,
     pub stop: Option<u32>,
@@ -32,6 +36,23 @@ pub fn two_poses(measured: f32, weight: f32) -> Case {
     case
 }
 
+/// Two rings of so many views each, pose 0 fixed; where a weight is given, an edge from the first
+/// to the second.
+pub fn two_rings(views: usize, bridge: Option<f32>) -> Case {
+    let ring = |salt: u64| calm_ring(&mut Random::of_case(26, salt, views as u64), views, 0);
+    let (mut case, second) = (ring(0), ring(1));
+    case.poses.extend(second.poses);
+    let behind = |end: &u32| *end + views as u32;
+    case.ends.extend(second.ends.iter().map(behind));
+    case.edges.extend(second.edges);
+    if let Some(weight) = bridge {
+        let measured = [0.0, 0.0, 0.0, 1.0, 1.0, 0.0, 0.0];
+        push_edge(&mut case, views - 1, views, measured, weight);
+    }
+    case.fit();
+    case
+}
+
 fn costs(first_cost: f32) -> Said {
     Said {
         number: Some(0),
@@ -44,6 +65,13 @@ fn number(number: u32) -> Said {
     Said {
         number: Some(number),
         ..Said::default()
+    }
+}
+
+fn loose(place: u32) -> Said {
+    Said {
+        place: Some(place),
+        ..number(26)
     }
 }
 
@@ -74,22 +102,41 @@ pub fn samples() -> Vec<(Case, Said)> {
     ];
     list.extend(zero_weights());
     list.extend(far_poses(&plain));
+    list.extend([3, 25].into_iter().flat_map(rings));
     list.extend(with_gravity(&list));
     list
 }
 
+/// Zero weights with zero gradient tolerance: 26; until Wish 6 it was Step after 0 iterations,
+/// which the least weight still gives.
 fn zero_weights() -> Vec<(Case, Said)> {
-    let case = but(&two_poses(2.0, 0.0), |c| c.gradient_tolerance = 0.0);
-    let said = Said {
+    let weighing = |weight: f32| but(&two_poses(2.0, weight), |c| c.gradient_tolerance = 0.0);
+    let step = Said {
         iterations: Some(0),
         stop: Some(3),
         ..costs(0.0)
     };
-    let loose = but(&case, |c| {
+    let nothing_fixed = but(&weighing(0.0), |c| {
         c.fixed.clear();
         c.fit();
     });
-    vec![(case, said.clone()), (loose, said)]
+    vec![
+        (weighing(0.0), loose(1)),
+        (weighing(-0.0), loose(1)),
+        (nothing_fixed, loose(0)),
+        (weighing(f32::from_bits(1)), step),
+    ]
+}
+
+/// Two rings, the second without a fixed pose, and a bridge of every kind.
+fn rings(views: usize) -> Vec<(Case, Said)> {
+    let place = views as u32;
+    vec![
+        (two_rings(views, None), loose(place)),
+        (two_rings(views, Some(0.0)), loose(place)),
+        (two_rings(views, Some(-0.0)), loose(place)),
+        (two_rings(views, Some(1.0)), number(0)),
+    ]
 }
 
 /// A pose at 1e300: refused 20 if an active edge names it, harmless otherwise.
@@ -133,12 +180,13 @@ mod tests {
     use crate::expect::expected;
 
     #[test]
-    fn the_original_gives_what_document_01_says() {
+    fn the_original_gives_what_the_documents_say() {
         for (i, (case, said)) in samples().iter().enumerate() {
             let e = expected(case);
             assert!(e.doubts.is_empty(), "{i}: {:?}", e.doubts);
             let costs = e.costs.unwrap_or([f32::NAN; 2]);
             assert_eq!(said.number.unwrap_or(e.answer[0]), e.answer[0], "{i}");
+            assert_eq!(said.place.unwrap_or(e.answer[1]), e.answer[1], "{i}");
             assert_eq!(said.iterations.unwrap_or(e.answer[2]), e.answer[2], "{i}");
             assert_eq!(said.stop.unwrap_or(e.answer[7]), e.answer[7], "{i}");
             if let Some(first) = said.first_cost {

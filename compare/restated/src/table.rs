@@ -1,7 +1,8 @@
-//! Document 01's refusal table, rows 1 to 19, as one list of tests in its order; written from the page,
-//! with nothing of the original in it.
+//! Document 01's refusal table, rows 1 to 19, with document 02's row 26, as one list of tests in
+//! its order; written from the pages, with nothing of the original in it.
 
 use crate::case::Case;
+use crate::islands::loose_pose;
 
 #[derive(Copy, Clone, Debug, PartialEq)]
 pub struct Refusal {
@@ -16,8 +17,22 @@ pub const MAX_FREE: usize = 64;
 pub const MAX_LIMIT: u32 = 1000;
 pub const MAX_DAMPING: f32 = 1e10;
 
+/// The rows asked before a run begins, in their order: 26 stands between 13 and 14.
+pub const ORDER: [u32; 20] = [
+    1, 2, 3, 4, 5, 6, 7, 8, 9, 10, 11, 12, 13, 26, 14, 15, 16, 17, 18, 19,
+];
+
+/// The rows that a run may meet once it began.
+pub const IN_THE_RUN: [u32; 3] = [20, 21, 22];
+
 /// Rows that the Rust has no word for.
-pub const PORTS_OWN: [u32; 5] = [2, 3, 13, 14, 16];
+pub const PORTS_OWN: [u32; 6] = [2, 3, 13, 14, 16, 26];
+
+/// A row's position in the order; all that is not asked before a run stands behind it.
+pub fn position(row: u32) -> usize {
+    let found = ORDER.iter().position(|asked| *asked == row);
+    found.unwrap_or(ORDER.len())
+}
 
 fn when(holds: bool, number: u32) -> Option<Refusal> {
     holds.then_some(Refusal { number, place: 0 })
@@ -30,12 +45,12 @@ fn at(place: Option<usize>, number: u32) -> Option<Refusal> {
     })
 }
 
-/// The first row that holds, of 1 to 19.
+/// The first row that holds, of 1 to 19 and 26.
 pub fn refused(c: &Case) -> Option<Refusal> {
     refused_graph(c).or_else(|| refused_settings(c))
 }
 
-/// The first row that holds, of 1 to 14: all that assembly alone asks.
+/// The first row that holds, of 1 to 14 and 26: all that assembly alone asks.
 pub fn refused_graph(c: &Case) -> Option<Refusal> {
     when(c.gravity.is_some_and(bad_gravity), 1)
         .or_else(|| when(bad_lengths(c), 2))
@@ -47,6 +62,7 @@ pub fn refused_graph(c: &Case) -> Option<Refusal> {
         .or_else(|| at(bad_fixed(c), 11))
         .or_else(|| when(c.free_count() == 0, 12))
         .or_else(|| when(c.free_count() > MAX_FREE, 13))
+        .or_else(|| at(loose_pose(c), 26))
         .or_else(|| when(c.work32 < c.need32() || c.work64 < c.need64(), 14))
 }
 

@@ -94,13 +94,24 @@ fn exact_and_heavy(random: &mut Random, case: &mut Case) {
     }
 }
 
-/// No pose fixed and weights against which no damping counts: the system stays singular.
+/// Weights against which no damping counts, and one fixed pose more, joined by an edge so light
+/// that its squares vanish: row 26 lets it pass, and the system stays singular. Where the squares
+/// barely count, rounding decides whether it is, and 22 may come late.
 fn loose_and_heavy(random: &mut Random, case: &mut Case) {
-    case.fixed.clear();
     let heavy = random.scaled(44, 54) as f32;
     for weight in case.edges.iter_mut().skip(7).step_by(8) {
         *weight = heavy;
     }
+    let (fixed, origin) = (case.pose_count(), Place::origin());
+    case.poses.extend(origin.numbers());
+    case.fixed = vec![fixed as u32];
+    let named = case.ends[random.below(case.ends.len())] as usize;
+    let ends = random.pick(&[(named, fixed), (fixed, named)]);
+    let light = match random.below(3) {
+        0 => random.pick(&[1e-30, -1e-27, f32::MIN_POSITIVE, f32::from_bits(1)]),
+        _ => heavy / random.pick(&[700.0, 1000.0, 1300.0, 2000.0]),
+    };
+    push_edge(case, ends.0, ends.1, origin.measured(), light);
 }
 
 /// One long heavy edge pulls a star of poses away: the first step is taken, and the assembly after it overflows.

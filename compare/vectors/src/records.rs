@@ -1,16 +1,20 @@
 //! Which cases go into the file, and how each is laid out.
 
+use std::collections::BTreeSet;
+
 use restated::assembly::assembled;
 use restated::case::Case;
-use restated::decide::{Decided, List};
+use restated::decide::{Decided, Event, List};
 use restated::expect::{expected, expected_forced};
 use restated::faults::faulty;
 use restated::forced::forced;
 use restated::graphs::{any_gravity, far, grid, ring};
 use restated::layer_inputs::layer;
 use restated::layers::{Layer, Outcome, System, NAMES};
+use restated::pieces::islands;
 use restated::random::Random;
 use restated::samples::samples;
+use restated::table::{refused, IN_THE_RUN, ORDER};
 use restated::wild::wild;
 
 use crate::format::{Body, File};
@@ -23,7 +27,10 @@ const MAKERS: [Maker; 4] = [ring, grid, far, wild];
 
 const OF_EACH_KIND: u64 = 20;
 const OF_EACH_ROW: u64 = 4;
+/// Graphs of several pieces: so many that run, and so many that row 26 turns down.
+const ISLANDS: usize = 6;
 const ASSEMBLIES: u64 = 16;
+const ISLAND_ASSEMBLIES: usize = 2;
 const FORCED_LISTS: u64 = 40;
 const RANDOM_LISTS: u64 = 60;
 const OF_EACH_LAYER: u64 = 40;
@@ -45,49 +52,77 @@ fn graph(salt: u64, index: u64, most: usize) -> Case {
     })
 }
 
+/// The runs, each row and success among their answers.
 pub fn runs(file: &mut File) -> Result<(), String> {
-    for (case, _) in samples() {
-        run(file, &case)?;
+    let mut met = BTreeSet::new();
+    for case in run_cases() {
+        met.insert(run(file, &case)?);
     }
+    let mut rows = [0].iter().chain(&ORDER).chain(&IN_THE_RUN);
+    match rows.find(|row| !met.contains(row)) {
+        None => Ok(()),
+        Some(row) => Err(format!("no run of the list is answered by {row}")),
+    }
+}
+
+fn run_cases() -> Vec<Case> {
+    let samples = samples().into_iter().map(|(case, _)| case);
+    let mut cases: Vec<Case> = samples.filter(|case| case.pose_count() <= 8).collect();
     for index in 0..8 * OF_EACH_KIND {
         let most = if index % 16 < 8 { 5 } else { 8 };
-        run(file, &graph(1, index, most))?;
+        cases.push(graph(1, index, most));
     }
-    for (number, late) in [(21, false), (21, true), (22, true)] {
-        refused_in_the_run(file, number, late)?;
+    for (number, late) in [(21, false), (21, true), (22, false), (22, true)] {
+        cases.extend(refused_in_the_run(number, late));
     }
-    for index in 0..19 * OF_EACH_ROW {
-        let row = (index % 19) as usize;
-        run(
-            file,
-            &small(2, index, most_for(row + 1), |random| faulty(random, row)),
-        )?;
+    for (at, row) in ORDER.into_iter().enumerate() {
+        cases.extend(faulty_cases(at, row));
     }
-    Ok(())
+    for number in [0, 26] {
+        cases.extend(pieces(7, ISLANDS, 6, number));
+    }
+    cases
 }
 
-/// Wild runs refused by that number, late ones after further events.
-fn refused_in_the_run(file: &mut File, number: u32, late: bool) -> Result<(), String> {
+/// Graphs of several pieces that the table answers by that number, with gravity and without.
+fn pieces(salt: u64, count: usize, most: usize, number: u32) -> Vec<Case> {
+    let case = |index: u64| {
+        small(salt, index, most, |random| {
+            let gravity = (index % 2 == 1).then(|| any_gravity(random));
+            islands(random, gravity)
+        })
+    };
+    let answered = |case: &Case| refused(case).map_or(0, |refusal| refusal.number) == number;
+    (0..).map(case).filter(answered).take(count).collect()
+}
+
+/// Wild runs refused by that number, late ones after a trial.
+fn refused_in_the_run(number: u32, late: bool) -> Vec<Case> {
     let refused = |case: &Case| {
         let e = expected(case);
-        let events = e.list.map_or(0, |list| list.events.len());
-        e.answer[0] == number && (events > 1) == late
+        let mut events = e.list.iter().flat_map(|list| &list.events);
+        let tried = events.any(|event| matches!(event, Event::Trial { .. }));
+        e.answer[0] == number && tried == late
     };
     let cases = (0..).map(|index| small(6, index, 6, |random| wild(random, None)));
-    let found: Vec<Case> = cases.filter(refused).take(OF_EACH_ROW as usize).collect();
-    found.iter().try_for_each(|case| run(file, case))
+    cases.filter(refused).take(OF_EACH_ROW as usize).collect()
 }
 
-/// More than 64 free poses need room.
-fn most_for(row: usize) -> usize {
-    if row == 13 {
-        100
-    } else {
-        6
-    }
+/// Faulty inputs of the row at that position of the order; fewer of 13, since more than 64 free
+/// poses need room.
+fn faulty_cases(at: usize, row: u32) -> Vec<Case> {
+    let (count, most) = match row {
+        13 => (2, 100),
+        _ => (OF_EACH_ROW, 6),
+    };
+    let indices = (0..count).map(|index| index * ORDER.len() as u64 + at as u64);
+    indices
+        .map(|index| small(2, index, most, |random| faulty(random, at)))
+        .collect()
 }
 
-fn run(file: &mut File, case: &Case) -> Result<(), String> {
+/// Puts a run into the file and tells its number.
+fn run(file: &mut File, case: &Case) -> Result<u32, String> {
     let e = expected(case);
     if let Some(doubt) = e.doubts.first() {
         return Err(format!("original and document 01 disagree: {doubt}"));
@@ -98,7 +133,7 @@ fn run(file: &mut File, case: &Case) -> Result<(), String> {
     body.f32s(&e.costs.unwrap_or([0.0; 2]));
     body.f64s(e.poses.as_deref().unwrap_or(&[]));
     file.push(1, body);
-    Ok(())
+    Ok(e.answer[0])
 }
 
 fn inputs(body: &mut Body, c: &Case) {
@@ -116,8 +151,11 @@ fn inputs(body: &mut Body, c: &Case) {
 }
 
 pub fn assemblies(file: &mut File) {
-    for index in 0..ASSEMBLIES {
-        let mut case = graph(3, index, 3);
+    let mut cases: Vec<Case> = (0..ASSEMBLIES).map(|index| graph(3, index, 3)).collect();
+    for number in [0, 26] {
+        cases.extend(pieces(8, ISLAND_ASSEMBLIES, 4, number));
+    }
+    for mut case in cases {
         case.fit();
         let mut body = Body::default();
         inputs(&mut body, &case);

@@ -1,4 +1,4 @@
-// Document 01's sample joins, run and printed, one line each.
+// Document 01's sample joins, then those of document 02's Wish 6, run and printed, one line each.
 mod graphs;
 mod say;
 
@@ -230,6 +230,77 @@ fn rings(w32: &mut [f32], w64: &mut [f64]) {
     say::line(b"the same ring, with gravity", a);
 }
 
+// ---- loose islands
+
+// 50 views in two passes of 25, the second going on from the first. A true step is a turn by 14.4 degrees about z (the 25th part of a full turn) and a shift
+// by 1; what the poses come from is a turn by 14.5 degrees (its cosine and sine) with a rise of 0.01.
+fn two_passes(
+    ends: &[u32],
+    edges: &[f32],
+    fixed: &[u32],
+    w32: &mut [f32],
+    w64: &mut [f64],
+) -> Answer {
+    let mut poses = [0.0f64; 600];
+    let drifted = graphs::vec(1.0, 0.0, 0.01);
+    graphs::walk(
+        &mut poses,
+        graphs::step(0.9681476403781077, 0.25038000405444144, drifted),
+    );
+    let mut out = [0.0f64; 600];
+    sparse_pgo::optimize(&poses, ends, edges, fixed, usual(), w32, w64, &mut out)
+}
+
+// Edges 24 and 49 go from the last view of a pass back to its first and measured the true step; the others go from a view to the next and measured what the
+// poses come from. An edge's turn is a quaternion: its z and w are sine and cosine of half the angle, 7.25 degrees, or 7.2 where it closes a pass. Where
+// there is room for an edge 50, its ends are the caller's to set.
+fn close_passes(ends: &mut [u32], edges: &mut [f32]) {
+    graphs::link(ends);
+    graphs::put_end(ends, 49, 0);
+    graphs::put_end(ends, 99, 25);
+    graphs::measure(
+        edges,
+        [0.0, 0.0, 0.12619896, 0.99200493, 1.0, 0.0, 0.01, 1.0],
+    );
+    let closing = [0.0f32, 0.0, 0.12533323, 0.9921147, 1.0, 0.0, 0.0, 1.0];
+    graphs::put_edge(edges, 24, closing);
+    graphs::put_edge(edges, 49, closing);
+}
+
+fn unbridged(w32: &mut [f32], w64: &mut [f64]) -> Answer {
+    let mut ends = [0u32; 100];
+    let mut edges = [0.0f32; 400];
+    close_passes(&mut ends, &mut edges);
+    two_passes(&ends, &edges, &[0], w32, w64)
+}
+
+// Edge 50 goes from the last view of the first pass to the first of the second, and measured what the poses come from.
+fn bridged(weight: f32, fixed: &[u32], w32: &mut [f32], w64: &mut [f64]) -> Answer {
+    let mut ends = [0u32; 102];
+    let mut edges = [0.0f32; 408];
+    close_passes(&mut ends, &mut edges);
+    ends[100] = 24;
+    ends[101] = 25;
+    edges[407] = weight;
+    two_passes(&ends, &edges, fixed, w32, w64)
+}
+
+fn islands(w32: &mut [f32], w64: &mut [f64]) {
+    let a = unbridged(w32, w64);
+    say::line(b"two passes of 25 views, no edge between them", a);
+    let a = bridged(1.0, &[0], w32, w64);
+    say::line(b"the same, one edge of weight 1 between them", a);
+}
+
+fn loose_despite_bridge(w32: &mut [f32], w64: &mut [f64]) {
+    let a = bridged(0.0, &[0], w32, w64);
+    say::line(b"the same, that edge of weight 0", a);
+    let a = bridged(-0.0, &[0], w32, w64);
+    say::line(b"the same, that edge of weight -0", a);
+    let a = bridged(1.0, &[], w32, w64);
+    say::line(b"the same, weight 1, no view fixed", a);
+}
+
 fn small(w32: &mut [f32], w64: &mut [f64]) {
     measured(w32, w64);
     limits(w32, w64);
@@ -247,6 +318,8 @@ fn large(w32: &mut [f32], w64: &mut [f64]) {
 fn all(w32: &mut [f32], w64: &mut [f64]) {
     small(w32, w64);
     large(w32, w64);
+    islands(w32, w64);
+    loose_despite_bridge(w32, w64);
 }
 
 // Work for 64 free poses with six degrees of freedom, and for 256 poses.

@@ -11,7 +11,7 @@ edge-at-requires c κs = search needs
 
 returns : tie.Need-returns
 unfolding weighs ratio ofBits edgeFrom ne
-returns c = cc
+returns c = rw (c .before .edge-at .ensures)
 
 pub has-weight-spec : {M : Type 1} → statement M
 has-weight-spec = tie.close (tie.spec edge-at-requires returns)
