@@ -1,9 +1,12 @@
 //! Times the port beside the original, same process, same inputs, runs taken in turn: `bench [ROUNDS]`.
-//! Medians and their ratio are printed, with what each figure means; exit 0 agree, 1 differ, 2 bad arguments.
+//! Medians and their ratio are printed, with what each figure means; exit 0 agree, 1 differ, or row 26's search takes too
+//! long or is not seen, 2 bad arguments.
 
+mod checks;
 mod digits;
 mod graphs;
 mod inputs;
+mod islands;
 mod numbers;
 mod timing;
 
@@ -46,6 +49,13 @@ whole run: checks to output. The original solves by the stand-in of faer, which 
   sparse solver: the ratio compares two programs under the same rules, and says nothing about the real faer.
 solves: one damped solve of the first system, by the stand-in's dense rule on one side and the port's solve on the other.
 The original makes its lists on the heap; the port writes into lent work, allocated before the clock starts.
+checks at the limits: microseconds a call, of the port alone. rows 1 to 13: a run that 13 refuses, for one free pose too
+  many. search: what a run that 15 refuses takes more than that, which is row 26 (14 and 15 go through no list).
+  assembly: pgo_assemble, all checks included; by Wish 6 of document 02 the search takes at most 1/20 of one. In any order
+  of its edges a graph that passes has one renaming for each free pose, and each renaming goes through all 256 labels.
+  worst order: a renaming changes the labels of all free poses joined so far, at edges hard to foresee; best order: the
+  same edges, but it changes one label, and the joining edges come first; bystanders: but for one edge a free pose all
+  are between fixed poses, so that an assembly has the least to do.
 roots and narrowing: nanoseconds a call, of independent calls | of calls that each wait for the answer before.
   digits is the function as it was before Wish 3 of document 02, in Rust: a root a digit a turn, and narrow with
   branches, which the port's compiler left out; processor is the one instruction for it. None is inlined. Inputs:
@@ -70,6 +80,8 @@ fn bench(rounds: usize) -> bool {
         line("whole run", medians(rounds, &timing::Whole::new(case)));
         println!();
     }
+    agreed &= checks::bench(rounds);
+    println!();
     numbers::bench(rounds) && agreed
 }
 

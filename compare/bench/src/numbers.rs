@@ -7,7 +7,7 @@ use restated::random::Random;
 
 use crate::digits;
 use crate::inputs::{hard32, hard64, to_narrow, to_root, Kind, Number, KINDS};
-use crate::timing::{median, timed};
+use crate::timing::{in_turn, median};
 
 pub const INPUTS: usize = 1 << 14;
 
@@ -188,22 +188,15 @@ fn medians<F: Function>(rounds: usize, inputs: &[F::Input]) -> [[f64; 3]; 2] {
             |inputs| dependent(F::processor, inputs),
         ],
     ];
-    loops.map(|three| in_turn(rounds, inputs, three))
+    loops.map(|three| nanoseconds(rounds, inputs, three))
 }
 
-/// One run of each to warm up, then each round one of each.
-fn in_turn<I>(rounds: usize, inputs: &[I], three: [Loop<I>; 3]) -> [f64; 3] {
+fn nanoseconds<I>(rounds: usize, inputs: &[I], three: [Loop<I>; 3]) -> [f64; 3] {
     let run = |calls: Loop<I>| {
         black_box(calls(black_box(inputs)));
     };
-    three.into_iter().for_each(run);
-    let mut times = [const { Vec::new() }; 3];
-    for _ in 0..rounds {
-        for (calls, times) in three.into_iter().zip(&mut times) {
-            times.push(timed(|| run(calls)));
-        }
-    }
-    times.map(|times| median(times).as_secs_f64() * 1e9 / inputs.len() as f64)
+    let times = in_turn(rounds, &three.map(|calls| (1, move || run(calls))));
+    [0, 1, 2].map(|i| median(&times[i]).as_secs_f64() * 1e9 / inputs.len() as f64)
 }
 
 fn line(name: &str, kind: &str, [independent, dependent]: [[f64; 3]; 2]) {

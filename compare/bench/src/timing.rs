@@ -27,9 +27,28 @@ pub fn timed(work: impl FnOnce()) -> Duration {
     start.elapsed()
 }
 
-pub fn median(mut times: Vec<Duration>) -> Duration {
-    times.sort();
-    times[times.len() / 2]
+pub fn median<T: Copy + PartialOrd>(times: &[T]) -> T {
+    let mut sorted = times.to_vec();
+    sorted.sort_by(|a, b| a.partial_cmp(b).expect("no time is a NaN"));
+    sorted[sorted.len() / 2]
+}
+
+/// One run of each to warm up, then one in every so many turns as it comes with, the way through them changing; the times
+/// of each.
+pub fn in_turn(turns: usize, works: &[(usize, impl Fn())]) -> Vec<Vec<Duration>> {
+    works.iter().for_each(|(_, work)| work());
+    let mut times = vec![Vec::new(); works.len()];
+    let mut way: Vec<usize> = (0..works.len()).collect();
+    for turn in 0..turns {
+        for &i in &way {
+            let (every, work) = &works[i];
+            if turn % every == 0 {
+                times[i].push(timed(work));
+            }
+        }
+        way.reverse();
+    }
+    times
 }
 
 /// One run of each to warm up, then each round one of both, the first to go changing.
@@ -47,8 +66,8 @@ pub fn medians(rounds: usize, both: &impl Both) -> Pair {
         }
     }
     Pair {
-        port: median(port),
-        original: median(original),
+        port: median(&port),
+        original: median(&original),
     }
 }
 
@@ -93,11 +112,16 @@ impl<'a> Assembly<'a> {
     pub fn new(case: &'a Case) -> Self {
         Self(Prepared::new(case))
     }
+
+    /// The port's answer.
+    pub fn answer(&self) -> u32 {
+        self.0.assemble()
+    }
 }
 
 impl Both for Assembly<'_> {
     fn port(&self) {
-        assert_eq!(black_box(self.0.assemble()), 0);
+        assert_eq!(black_box(self.answer()), 0);
     }
 
     fn original(&self) {
@@ -152,13 +176,19 @@ impl<'a> Whole<'a> {
     /// The port's answer.
     pub fn answer(&self) -> (u32, [u32; 8]) {
         let case = self.prepared.case;
+        self.answer_with(&case.fixed, case.limit)
+    }
+
+    /// The port's answer with other fixed poses and another limit.
+    pub fn answer_with(&self, fixed: &[u32], limit: u32) -> (u32, [u32; 8]) {
+        let case = self.prepared.case;
         let (mut answer, mut costs) = ([0; 8], [0.0; 2]);
         let inputs = port::Inputs {
             poses: &case.poses,
             ends: &case.ends,
             edges: &case.edges,
-            fixed: &case.fixed,
-            limit: case.limit,
+            fixed,
+            limit,
             cost_tolerance: case.cost_tolerance,
             gradient_tolerance: case.gradient_tolerance,
             damping: case.damping,

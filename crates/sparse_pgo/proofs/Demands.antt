@@ -1,20 +1,25 @@
 -- Demands 1 and 3 of the public promise, for every input; and that a promise that is an equation leaves one answer. Assumes nothing.
 use mathlib.Core.Path.{_≡_, refl, sym, ap, _∙_}
-use mathlib.Core.Bool.{true}
+use mathlib.Core.Bool.{Bool, true, false}
 use mathlib.Core.List.{List}
 use Prim.Native.Nat.{ℕ, _+_, _*_, _<_, _≤_}
 use native.Mathlib.Omega.{arith}
 use lib.Dec.{T}
 use lib.Ieee.{Float, binary32, lt, fits}
 use Rattle.numbers.specs.Walks.{Ended, done, stopped}
+use Rattle.numbers.specs.Notation.{if-then}
+use Rattle.numbers.specs.Refusals.{refusal}
 use Rattle.numbers.specs.declared.Refusal.{Refusal}
+use Rattle.numbers.specs.declared.Failure.the-variants.{Numerical}
 use Rattle.graph.specs.Graph.{freeCount}
 use Rattle.graph.specs.Lent.{Input, graphOf, dofOf}
 use Rattle.graph.specs.Table.{checks}
 use Rattle.graph.specs.declared.Counts.{Counts}
+use Rattle.graph.specs.declared.Checked.{Checked}
 use Rattle.graph.specs.declared.Checked.the-variants as checked
 use Rattle.graph.specs.declared.Settings.{Settings}
 use Rattle.graph.proofs.Passed.{PassedSettings, fit}
+use Rattle.graph.proofs.Row26.{Adrift, refused-26}
 use Rattle.residual.specs.Retraction.{unitOf}
 use Rattle.solve.specs.Work.{need}
 use Rattle.decisions.specs.Demand.{Held}
@@ -22,11 +27,14 @@ use Rattle.decisions.specs.Machine.{Play, played, stateOf}
 use Rattle.decisions.specs.declared.End.the-variants as end
 use Rattle.decisions.specs.declared.Next.{Next}
 use Rattle.decisions.specs.declared.Next.the-variants as next
+use Rattle.decisions.specs.declared.State.{State}
+use Rattle.decisions.specs.declared.Assembly.the-variants as assembly
 use Rattle.decisions.proofs.Machines.{played-held, played-same}
+use Rattle.decisions.proofs.Refusing.{Assembles, played-refuses}
 use Rattle.sparse_pgo.specs.declared.Joined.{Joined}
 use Rattle.sparse_pgo.specs.declared.Answer.{Answer}
 use Rattle.sparse_pgo.specs.declared.Answer.the-variants as answer
-use Rattle.sparse_pgo.specs.Parts.{Parts, numerics, joinedOf, answerOf, wholeFrom, whole}
+use Rattle.sparse_pgo.specs.Parts.{Parts, assemblyOf, numerics, joinedOf, answerOf, wholeFrom, whole}
 use Rattle.sparse_pgo.specs.Numerics.{partsOf}
 use Rattle.sparse_pgo.specs.Optimize.{After, afterChecks, given, ran, zeroed, optimized}
 use Rattle.sparse_pgo.proofs.Looping.{not-above}
@@ -74,6 +82,43 @@ module _ {X S D : Type 0} (p : Parts X S D) (set : Settings) (ok : PassedSetting
           (played-same (numerics p) (set .limit) (set .«cost_tolerance») c (set .damping) x)
           q
 
+-- ---- a run that began is never refused by 26
+
+abbrev NotBy26 : Refusal → Type 0
+NotBy26 r = r .number ≡ 26 → ⊥
+
+same-number : (q r : Refusal) → q ≡ r → NotBy26 q → NotBy26 r
+same-number q r e f h = f (ap (λ (r : Refusal). r .number) e ∙ h)
+
+module _ {X S D : Type 0} (p : Parts X S D) where
+  assembly-other : (x : X) → Assembles NotBy26 (numerics p .assemble x)
+  unfolding numerics if-then
+  assembly-other x = go (p .assembled x)
+    where
+      flat : (b : Bool) (r : Refusal) → if-then b assembly.Flat assembly.Steep ≡ assembly.Refused r → NotBy26 r
+      flat true r e h = let z : _≡_ {A = ℕ} 0 1 = cc in omega arith
+      flat false r e h = let z : _≡_ {A = ℕ} 0 1 = cc in omega arith
+
+      go : (a : Ended S) → Assembles NotBy26 (assemblyOf p a)
+      go (done s) r e = flat (p .flat s) r e
+      go (stopped k Numerical s) r e = let d : refusal 21 k ≡ r = cc in same-number _ r d (λ z. omega arith)
+
+  ended-other : (c : Float) (n : Next) (r : Refusal) → ((s : State) (q : Refusal) → n ≡ next.Over s (end.Refused q) → NotBy26 q)
+      → answerOf c n ≡ answer.Refused r → NotBy26 r
+  ended-other c (next.On s) r f e = let d : refusal 0 0 ≡ r = cc in same-number _ r d (λ z. omega arith)
+  ended-other c (next.Over s (end.Stopped w)) r f e = let z : _≡_ {A = ℕ} 0 1 = cc in absurd (omega arith)
+  ended-other c (next.Over s (end.Refused q)) r f e = let d : q ≡ r = cc in same-number q r d (f s q refl)
+
+  whole-other : (set : Settings) (x : X) (r : Refusal) → whole p set x .answer ≡ answer.Refused r → NotBy26 r
+  unfolding whole
+  whole-other set x r = go (p .cost x)
+    where
+      go : (e : Ended Float) → wholeFrom p set x e .answer ≡ answer.Refused r → NotBy26 r
+      go (stopped k Numerical c) e = let d : refusal 20 k ≡ r = cc in same-number _ r d (λ z. omega arith)
+      go (done c) e =
+          ended-other c _ r
+          (played-refuses NotBy26 (λ z. omega arith) (set .limit) (set .«cost_tolerance») (numerics p) assembly-other c (set .damping) x) e
+
 -- ---- of the public promise
 
 -- the parts of an input's run, and what the machine comes to with them from a first cost
@@ -88,6 +133,16 @@ module _ (i : Input) (work32 work64 out : List Float) where
   pub demand-one-before : (r : Refusal) → checks i .answer ≡ checked.Turned r → optimized i work32 work64 out ≡ record { answer = answer.Refused r; work32 = work32; work64 = work64; out = out }
   unfolding optimized
   demand-one-before r e = rw e
+
+  -- row 26, of the run: given exactly where the paths say so, and every lent number as it was
+  pub demand-one-adrift : (x : ℕ) → (optimized i work32 work64 out .answer ≡ answer.Refused (refusal 26 x) → Adrift i x)
+      × (Adrift i x → optimized i work32 work64 out ≡ record { answer = answer.Refused (refusal 26 x); work32 = work32; work64 = work64; out = out })
+  unfolding optimized ran
+  demand-one-adrift x = (λ e. go (checks i .answer) refl e, λ a. demand-one-before (refusal 26 x) (refused-26 i x .1 a))
+    where
+      go : (v : Checked) → checks i .answer ≡ v → afterChecks i work32 work64 out v .answer ≡ answer.Refused (refusal 26 x) → Adrift i x
+      go (checked.Turned r) h e = let d : r ≡ refusal 26 x = cc in refused-26 i x .0 (h ∙ ap checked.Turned d)
+      go (checked.Fit c) h e = absurd (whole-other (runParts i) (i .settings) (i .poses) (refusal 26 x) e refl)
 
   module _ (c : Counts) (e : checks i .answer ≡ checked.Fit c) where
     began : optimized i work32 work64 out ≡ afterChecks i work32 work64 out (checked.Fit c)
