@@ -41,11 +41,12 @@ fn asked(arguments: &[String]) -> Result<Asked, String> {
         return Err("too many arguments".into());
     }
     let index = arguments.get(3);
-    if arguments.first().is_some_and(|n| n == "0") {
+    let count = number("N", arguments.first())?;
+    if count == 0 {
         return Err("N is 0: nothing would be compared".into());
     }
     Ok(Asked {
-        count: number("N", arguments.first())?,
+        count,
         seed: number("SEED", arguments.get(1))?,
         kind: known_kind(arguments.get(2))?,
         index: index.map(|_| number("INDEX", index)).transpose()?,

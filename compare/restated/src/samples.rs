@@ -5,7 +5,7 @@ use crate::case::Case;
 use crate::graphs::{calm_ring, push_edge};
 use crate::random::Random;
 
-/// What the page says of a sample; none where it is silent.
+/// What the page says of a sample, or what follows from it; none where it is silent.
 #[derive(Clone, Debug, Default)]
 pub struct Said {
     pub number: Option<u32>,

@@ -2,7 +2,7 @@
 //! its order; written from the pages, with nothing of the original in it.
 
 use crate::case::Case;
-use crate::islands::loose_pose;
+use crate::paths::loose_pose;
 
 #[derive(Copy, Clone, Debug, PartialEq)]
 pub struct Refusal {

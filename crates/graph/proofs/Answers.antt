@@ -1,5 +1,5 @@
--- The code counts free poses in an array of 256, the table over the poses: where rows 1 to 11 pass the two agree, and the labels tell the loose poses, so
--- that the answers are equal. Assumes nothing.
+-- The code counts free poses in an array of 256, the table over the poses: where rows 1 to 11 pass the two agree; and where 12 and 13 pass too the labels
+-- tell the loose poses. So the answers are equal. Assumes nothing.
 use Prim.Native.Nat.{ℕ, _*_, _/_, _<_, _≤_}
 use native.Mathlib.Omega.{arith}
 use mathlib.Core.Path.{_≡_, refl, ap, _∙_}
@@ -114,7 +114,7 @@ pub settings-alone : (i : Input) → graphChecks (lent (i .manifold) (i .poses) 
 unfolding graphChecks
 settings-alone i = refl
 
-settle-turned : (v : Verdict) (n : Counts) (r : Refusal) → settle v n ≡ Turned r → v ≡ Refused r
+pub settle-turned : (v : Verdict) (n : Counts) (r : Refusal) → settle v n ≡ Turned r → v ≡ Refused r
 settle-turned Fine n r e = let z : _≡_ {A = ℕ} 0 1 = cc in absurd (omega arith)
 settle-turned (Refused q) n r e = cc
 

@@ -16,7 +16,7 @@ use Rattle.graph.specs.declared.Edge.{Edge}
 use Rattle.graph.specs.Graph.{Graph}
 use Rattle.graph.specs.Lent.{none}
 use Rattle.graph.specs.Islands.{weighs}
-use Rattle.graph.specs.Labels.{labelOf, renamed, Joins, Merges}
+use Rattle.graph.specs.Labels.{labelOf, renamed, MergesTwo, Merges}
 
 -- ---- one label renamed, up to pose n
 pub record Renaming (old new : ℕ) (l₀ l : List ℕ) (n : ℕ) : Type 0 where
@@ -60,15 +60,15 @@ module _ (old new : ℕ) (l₀ : List ℕ) where
       (λ x _. refl)
 
 -- ---- two labels made one
-flip : {a b : ℕ} {f f' : ℕ → ℕ} → Joins a b f f' → Joins b a f f'
+flip : {a b : ℕ} {f f' : ℕ → ℕ} → MergesTwo a b f f' → MergesTwo b a f f'
 flip j = record {
   same = j .same;
   ends = sym (j .ends);
   apart = λ x y e. ⊎-elim (λ h. inl h) (λ h. inr (⊎-elim (λ g. inr g) (λ g. inl g) h)) (j .apart x y e);
 }
 
-rename-joins : (a b : ℕ) (f f' : ℕ → ℕ) → ((x : ℕ) → f' x ≡ renamed (f a) (f b) (f x)) → Joins a b f f'
-rename-joins a b f f' h = record {
+rename-merges : (a b : ℕ) (f f' : ℕ → ℕ) → ((x : ℕ) → f' x ≡ renamed (f a) (f b) (f x)) → MergesTwo a b f f'
+rename-merges a b f f' h = record {
   same = λ x y e. h x ∙ ap (renamed (f a) (f b)) e ∙ sym (h y);
   ends = h a ∙ sym (taken (f a) (eq-eqb (f a) (f a) refl) refl) ∙ sym (kept (eqb (f b) (f a)) refl);
   apart = λ x y e. split x y e (eqb (f x) (f a)) (eqb (f y) (f a)) refl refl;
@@ -93,10 +93,10 @@ rename-joins a b f f' h = record {
     split x y e false false p q = inl (sym (stayed x p) ∙ e ∙ stayed y q)
 
 -- the smaller label becomes the larger; none, that of all poses past the end, is the largest
-pub larger-joins : (l l' : List ℕ) (a b p q : ℕ) → p ≡ labelOf l a → q ≡ labelOf l b → p < q → q ≤ none → length l' ≡ length l
-    → ((x : ℕ) → x < length l → labelOf l' x ≡ renamed p q (labelOf l x)) → Joins a b (labelOf l) (labelOf l')
-larger-joins l l' a b p q ep eq s m n h =
-    rename-joins a b (labelOf l) (labelOf l') (λ x. all x (ltb x (length l)) (ltb-true x (length l)) (ltb-false x (length l)) ∙ (rw (ep, eq)))
+pub larger-merges : (l l' : List ℕ) (a b p q : ℕ) → p ≡ labelOf l a → q ≡ labelOf l b → p < q → q ≤ none → length l' ≡ length l
+    → ((x : ℕ) → x < length l → labelOf l' x ≡ renamed p q (labelOf l x)) → MergesTwo a b (labelOf l) (labelOf l')
+larger-merges l l' a b p q ep eq s m n h =
+    rename-merges a b (labelOf l) (labelOf l') (λ x. all x (ltb x (length l)) (ltb-true x (length l)) (ltb-false x (length l)) ∙ (rw (ep, eq)))
   where
     all : (x : ℕ) (t : Bool) → (t ≡ true → x < length l) → (t ≡ false → length l ≤ x) → labelOf l' x ≡ renamed p q (labelOf l x)
     all x true y z = h x (y refl)
@@ -106,12 +106,12 @@ larger-joins l l' a b p q ep eq s m n h =
         let e' : labelOf l' x ≡ none = List·getD-eq-default l' none (omega arith) in
         e' ∙ sym e ∙ left q (ne-eqb (labelOf l x) p (λ w. omega arith)) refl
 
-pub smaller-joins : (l l' : List ℕ) (a b p q : ℕ) → p ≡ labelOf l a → q ≡ labelOf l b → q < p → p ≤ none → length l' ≡ length l
-    → ((x : ℕ) → x < length l → labelOf l' x ≡ renamed q p (labelOf l x)) → Joins a b (labelOf l) (labelOf l')
-smaller-joins l l' a b p q ep eq s m n h = flip (larger-joins l l' b a q p eq ep s m n h)
+pub smaller-merges : (l l' : List ℕ) (a b p q : ℕ) → p ≡ labelOf l a → q ≡ labelOf l b → q < p → p ≤ none → length l' ≡ length l
+    → ((x : ℕ) → x < length l → labelOf l' x ≡ renamed q p (labelOf l x)) → MergesTwo a b (labelOf l) (labelOf l')
+smaller-merges l l' a b p q ep eq s m n h = flip (larger-merges l l' b a q p eq ep s m n h)
 
-pub same-joins : (l : List ℕ) (a b p q : ℕ) → p ≡ labelOf l a → q ≡ labelOf l b → q ≤ p → p ≤ q → Joins a b (labelOf l) (labelOf l)
-same-joins l a b p q ep eq s t = let e : p ≡ q = omega arith in record { same = λ x y h. h; ends = sym ep ∙ e ∙ eq; apart = λ x y h. inl h }
+pub same-merges : (l : List ℕ) (a b p q : ℕ) → p ≡ labelOf l a → q ≡ labelOf l b → q ≤ p → p ≤ q → MergesTwo a b (labelOf l) (labelOf l)
+same-merges l a b p q ep eq s t = let e : p ≡ q = omega arith in record { same = λ x y h. h; ends = sym ep ∙ e ∙ eq; apart = λ x y h. inl h }
 
 -- ---- the ends of every edge
 module _ {P : Type 0} (g : Graph P Edge) (f : ℕ → ℕ) where
@@ -125,7 +125,7 @@ module _ {P : Type 0} (g : Graph P Edge) (f : ℕ → ℕ) where
       at true y z = subst C (sym (y refl)) c
       at false y z = let d = z refl in h k (omega (arith, d))
 
-  pub merge-more : (n : ℕ) (f' f'' : ℕ → ℕ) → Merges g n f f' → weighs g n ≡ true → Joins (g .a n) (g .b n) f' f'' → Merges g (n + 1) f f''
+  pub merge-more : (n : ℕ) (f' f'' : ℕ → ℕ) → Merges g n f f' → weighs g n ≡ true → MergesTwo (g .a n) (g .b n) f' f'' → Merges g (n + 1) f f''
   merge-more n f' f'' m w j = record {
     same = λ x y e. j .same x y (m .same x y e);
     ends = below n (λ k. weighs g k ≡ true → f'' (g .a k) ≡ f'' (g .b k)) (λ k l v. j .same _ _ (m .ends k l v)) (λ _. j .ends);

@@ -1,9 +1,9 @@
--- Row 26: where the ends are in range, the labels that the search leaves tell the islands. Assumes nothing.
-use Prim.Native.Nat.{ℕ, zero, suc, _+_, _<_, _≤_}
+-- Row 26: of at most 256 poses, with the ends in range, the labels that the search leaves tell the loose ones. Assumes nothing.
+use Prim.Native.Nat.{ℕ, _+_, _<_, _≤_}
 use native.Mathlib.Omega.{arith}
 use mathlib.Core.Path.{_≡_, refl, sym, ap, _∙_}
 use mathlib.Core.Bool.{Bool, true, false, not, _&&_, or-true, and-false, true≢false}
-use mathlib.Core.List.{List, [], _∷_}
+use mathlib.Core.List.{List}
 use lib.ListN.{length, List·getD-eq-default}
 use lib.Dec.{eqb, ltb}
 use borrow.Author.Tests.{eq-eqb, ne-eqb, ltb-true, ltb-false}
@@ -18,32 +18,32 @@ use Rattle.graph.specs.Table.{blockNumber}
 use Rattle.graph.specs.Islands.{weighs, Path, here, along, against, reaches, isLoose}
 use Rattle.graph.specs.Labels.{labelOf, Merges}
 use Rattle.graph.proofs.Free.{Ends, free-past, blocks-differ}
-use Rattle.graph.proofs.Islands.{joined-ends, reaches-means}
+use Rattle.graph.proofs.Islands.{connected-ends, reaches-means}
 
 module _ {P : Type 0} (g : Graph P Edge) (few : g .poses ≤ 256) (inside : (k : ℕ) → k < g .edges → Ends g k) where
   -- ---- not an island: the same at both ends of an edge of non-zero weight, and under one first label
-  held : ℕ → Bool
-  held x = not (isLoose g x)
+  anchored : ℕ → Bool
+  anchored x = not (isLoose g x)
 
-  held-unfree : (x : ℕ) → isFree g x ≡ false → held x ≡ true
-  unfolding held isLoose
-  held-unfree x e = rw e
+  anchored-unfree : (x : ℕ) → isFree g x ≡ false → anchored x ≡ true
+  unfolding anchored isLoose
+  anchored-unfree x e = rw e
 
-  held-named : (x : ℕ) → some (touches g x) (g .edges) ≡ true → x < g .poses → held x ≡ reaches g x
-  unfolding held isLoose isFree
-  held-named x s l = rw s (go (g .fixed x) (reaches g x) refl (λ e. reaches-means g x .1 (record { pose = x; below = l; fixed = e; path = here })))
+  anchored-named : (x : ℕ) → some (touches g x) (g .edges) ≡ true → x < g .poses → anchored x ≡ reaches g x
+  unfolding anchored isLoose isFree
+  anchored-named x s l = rw s (go (g .fixed x) (reaches g x) refl (λ e. reaches-means g x .1 (record { pose = x; below = l; fixed = e; path = here })))
     where
       go : (f r : Bool) → g .fixed x ≡ f → (g .fixed x ≡ true → r ≡ true) → not (not f && not r) ≡ r
       go true r e h = sym (h e)
       go false true e h = refl
       go false false e h = refl
 
-  held-ends : (k : ℕ) → k < g .edges → weighs g k ≡ true → held (g .a k) ≡ held (g .b k)
+  anchored-ends : (k : ℕ) → k < g .edges → weighs g k ≡ true → anchored (g .a k) ≡ anchored (g .b k)
   unfolding reaches
-  held-ends k l w =
-      held-named (g .a k) (some-hit (touches g (g .a k)) k (g .edges) l (rw (eq-eqb (g .a k) (g .a k) refl))) (inside k l .a)
-      ∙ some-ext _ _ (g .poses) (λ y _. ap (λ (b : Bool). g .fixed y && b) (joined-ends g (g .edges) k l w y))
-      ∙ sym (held-named (g .b k)
+  anchored-ends k l w =
+      anchored-named (g .a k) (some-hit (touches g (g .a k)) k (g .edges) l (rw (eq-eqb (g .a k) (g .a k) refl))) (inside k l .a)
+      ∙ some-ext _ _ (g .poses) (λ y _. ap (λ (b : Bool). g .fixed y && b) (connected-ends g (g .edges) k l w y))
+      ∙ sym (anchored-named (g .b k)
       (some-hit (touches g (g .b k)) k (g .edges) l (rw (eq-eqb (g .b k) (g .b k) refl) (or-true (eqb (g .a k) (g .b k))))) (inside k l .b))
 
   free-few : (x : ℕ) → isFree g x ≡ true → x < 256
@@ -68,14 +68,14 @@ module _ {P : Type 0} (g : Graph P Edge) (few : g .poses ≤ 256) (inside : (k :
       let n : blockOf g x ≡ none = sym (free-number x f) ∙ e in
       omega arith
 
-  held-start : (x y : ℕ) → blockNumber g x ≡ blockNumber g y → held x ≡ held y
-  held-start x y e = go (isFree g x) (isFree g y) refl refl
+  anchored-start : (x y : ℕ) → blockNumber g x ≡ blockNumber g y → anchored x ≡ anchored y
+  anchored-start x y e = go (isFree g x) (isFree g y) refl refl
     where
-      go : (p q : Bool) → isFree g x ≡ p → isFree g y ≡ q → held x ≡ held y
-      go true true p q = ap held (blocks-differ g x y p q (sym (free-number x p) ∙ e ∙ free-number y q))
+      go : (p q : Bool) → isFree g x ≡ p → isFree g y ≡ q → anchored x ≡ anchored y
+      go true true p q = ap anchored (blocks-differ g x y p q (sym (free-number x p) ∙ e ∙ free-number y q))
       go true false p q = absurd (free-some x p (e ∙ unfree-number y q))
       go false true p q = absurd (free-some y q (sym e ∙ unfree-number x p))
-      go false false p q = held-unfree x p ∙ sym (held-unfree y q)
+      go false false p q = anchored-unfree x p ∙ sym (anchored-unfree y q)
 
   -- ---- the labels at the end, from the blocks
   module _ (l₀ l : List ℕ) (e₀ : l₀ ≡ table (blockNumber g) 256) (m : Merges g (g .edges) (labelOf l₀) (labelOf l)) where
@@ -117,12 +117,12 @@ module _ {P : Type 0} (g : Graph P Edge) (few : g .poses ≤ 256) (inside : (k :
     reaches-none x e = let r = reaches-means g x .0 e in path-same (r .path) ∙ fixed-none (r .pose) (r .fixed)
 
     -- a label is none exactly if the pose is on no island
-    none-held : (x : ℕ) → labelOf l x ≡ none → held x ≡ true
-    none-held x e = m .least held held-ends (λ p q h. held-start p q (sym (start p) ∙ h ∙ start q)) x past (e ∙ sym past-none) ∙ held-unfree past past-free
+    none-anchored : (x : ℕ) → labelOf l x ≡ none → anchored x ≡ true
+    none-anchored x e = m .least anchored anchored-ends (λ p q h. anchored-start p q (sym (start p) ∙ h ∙ start q)) x past (e ∙ sym past-none) ∙ anchored-unfree past past-free
 
-    held-none : (x : ℕ) → held x ≡ true → labelOf l x ≡ none
-    unfolding held isLoose
-    held-none x e = go (isFree g x) (reaches g x) refl refl e
+    anchored-none : (x : ℕ) → anchored x ≡ true → labelOf l x ≡ none
+    unfolding anchored isLoose
+    anchored-none x e = go (isFree g x) (reaches g x) refl refl e
       where
         go : (f r : Bool) → isFree g x ≡ f → reaches g x ≡ r → not (f && not r) ≡ true → labelOf l x ≡ none
         go true true p q h = reaches-none x q
@@ -130,9 +130,9 @@ module _ {P : Type 0} (g : Graph P Edge) (few : g .poses ≤ 256) (inside : (k :
         go false r p q h = unfree-none x p
 
     pub loose-island : (x : ℕ) → not (eqb (labelOf l x) none) ≡ isLoose g x
-    unfolding held
+    unfolding anchored
     loose-island x = go (isLoose g x) refl
       where
         go : (b : Bool) → isLoose g x ≡ b → not (eqb (labelOf l x) none) ≡ b
-        go true p = ap not (ne-eqb (labelOf l x) none (λ e. true≢false (sym (none-held x e) ∙ ap not p)))
-        go false p = ap not (eq-eqb (labelOf l x) none (held-none x (ap not p)))
+        go true p = ap not (ne-eqb (labelOf l x) none (λ e. true≢false (sym (none-anchored x e) ∙ ap not p)))
+        go false p = ap not (eq-eqb (labelOf l x) none (anchored-none x (ap not p)))

@@ -79,10 +79,10 @@ equal x y h = eqb-true x y (not-false (eqb x y) h)
 positive : (x : ℕ) → eqb x 0 ≡ false → 0 < x
 positive x h = let n = eqb-false x 0 h in omega (arith, n)
 
-held : (f r : Bool) → f ≡ true → (f && not r) ≡ false → r ≡ true
-held true true e h = refl
-held true false e h = sym h
-held false r e h = absurd (true≢false (sym e))
+reached : (f r : Bool) → f ≡ true → (f && not r) ≡ false → r ≡ true
+reached true true e h = refl
+reached true false e h = sym h
+reached false r e h = absurd (true≢false (sym e))
 
 pub passed-graph : (i : Input) → verdict (graphRows i) ≡ Fine → PassedGraph i
 unfolding unfit tooMany shortWork isLoose
@@ -120,7 +120,7 @@ passed-graph i e =
       fixed-in = λ k l. leb-false (g .poses) (getD (i .fixed) k 0) (row-fault (fixedFaults (g .poses) (i .fixed)) (length (i .fixed)) 0 k (row-at Fine (graphRows i) 7 e) l);
       some-free = positive _ (ask-fine _ 12 0 (row-at Fine (graphRows i) 8 e));
       most-free = ltb-false 64 (freeCount g) (ask-fine _ 13 0 (row-at Fine (graphRows i) 9 e));
-      no-island = λ x l f. reaches-means g x .0 (held _ _ f (row-fault (islandFaults g) (g .poses) 0 x (row-at Fine (graphRows i) 10 e) l));
+      no-island = λ x l f. reaches-means g x .0 (reached _ _ f (row-fault (islandFaults g) (g .poses) 0 x (row-at Fine (graphRows i) 10 e) l));
       work32-enough = ltb-false (i .room .work32) (n * (n + 3)) (neither-first _ _ row14);
       work64-enough = ltb-false (i .room .work64) (24 * g .poses) (neither-second (ltb (i .room .work32) (n * (n + 3))) _ row14);
     }

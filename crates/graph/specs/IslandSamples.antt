@@ -15,7 +15,7 @@ use Rattle.pose_conversion.specs.Conversions.{vecF32, matF32, rebuilt, finitePo
 use Rattle.graph.specs.declared.Manifold.the-variants.{Se3}
 use Rattle.graph.specs.Graph.{isFree}
 use Rattle.graph.specs.Lent.{poseFrom, edgeFrom, lent, unset}
-use Rattle.graph.specs.Islands.{weighs, joined, reaches, isLoose}
+use Rattle.graph.specs.Islands.{weighs, connected, reaches, isLoose}
 use Rattle.graph.specs.Table.{badGravity, unfit, tooMany, shortWork, graphRows}
 
 -- an edge that measured no step, of weight w
@@ -31,22 +31,24 @@ pub data Case : Type 0 where
   three : List ℕ → Float → Float → List ℕ → Case
 
 -- no work is lent, so that what passes row 26 is refused by 14
-unfoldable pub answer : Case → List ℕ
-answer (three ends v w fixed) =
+unfoldable pub tableSays : Case → List ℕ
+tableSays (three ends v w fixed) =
     numberAndPlace (verdict (graphRows (lent Se3 (replicate 36 (num 0)) ends (edge v ++ edge w) fixed unset (record { work32 = 0; work64 = 0; out = 36 }))))
 
 abbrev chain : List ℕ
 chain = 0 ∷ 1 ∷ 1 ∷ 2 ∷ []
 
--- A chain from fixed pose 0 passes row 26: as it is, with either edge turned round, with both, and with a first edge of the least weight.
--- With the first weight 0, or −0, poses 1 and 2 are loose and 1 is the place; with the second 0, 2 is. A fixed pose that no edge names ties nothing.
--- With nothing fixed, pose 0 is the place; with all fixed, row 12 speaks first.
-pub samples : map answer (
+-- A chain from fixed pose 0 passes row 26: as it is, with either edge turned round, with both, and with a first weight of the least size, above 0 or below.
+-- So does a graph with a pose that no edge names. With the first weight 0, or −0, poses 1 and 2 are loose and 1 is the place; with the second 0, 2 is.
+-- A fixed pose that no edge names ties nothing. With nothing fixed, pose 0 is the place; with all fixed, none is free, and row 12 speaks.
+pub samples : map tableSays (
     three chain (num 1) (num 1) (0 ∷ [])
     ∷ three (1 ∷ 0 ∷ 1 ∷ 2 ∷ []) (num 1) (num 1) (0 ∷ [])
     ∷ three (0 ∷ 1 ∷ 2 ∷ 1 ∷ []) (num 1) (num 1) (0 ∷ [])
     ∷ three (1 ∷ 0 ∷ 2 ∷ 1 ∷ []) (num 1) (num 1) (0 ∷ [])
     ∷ three chain (ofBits binary32 1) (num 1) (0 ∷ [])
+    ∷ three chain (ofBits binary32 0x8000_0001) (num 1) (0 ∷ [])
+    ∷ three (0 ∷ 1 ∷ 1 ∷ 0 ∷ []) (num 1) (num 1) (0 ∷ [])
     ∷ three chain (num 0) (num 1) (0 ∷ [])
     ∷ three chain (ofBits binary32 0x8000_0000) (num 1) (0 ∷ [])
     ∷ three chain (num 1) (num 0) (0 ∷ [])
@@ -60,6 +62,8 @@ pub samples : map answer (
     ∷ (14 ∷ 0 ∷ [])
     ∷ (14 ∷ 0 ∷ [])
     ∷ (14 ∷ 0 ∷ [])
+    ∷ (14 ∷ 0 ∷ [])
+    ∷ (14 ∷ 0 ∷ [])
     ∷ (26 ∷ 1 ∷ [])
     ∷ (26 ∷ 1 ∷ [])
     ∷ (26 ∷ 2 ∷ [])
@@ -67,6 +71,6 @@ pub samples : map answer (
     ∷ (26 ∷ 0 ∷ [])
     ∷ (12 ∷ 0 ∷ [])
     ∷ []
-unfolding answer ratio if-then add sub mul eq lt ofBits rounded some count matrixOf wide vecF32 matF32 rebuilt finitePose finiteTransform
-    isFree poseFrom edgeFrom weighs joined reaches isLoose badGravity unfit tooMany shortWork
+unfolding tableSays ratio if-then add sub mul eq lt ofBits rounded some count matrixOf wide vecF32 matF32 rebuilt finitePose finiteTransform
+    isFree poseFrom edgeFrom weighs connected reaches isLoose badGravity unfit tooMany shortWork
 samples = refl

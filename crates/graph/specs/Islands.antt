@@ -35,15 +35,15 @@ pub record Loose {P : Type 0} (g : Graph P Edge) (x : ℕ) : Type 0 where
 -- ---- the test
 
 -- whether edges below k join x to y: without the last of them; or by way of it, along or against
-unfoldable pub joined : {P : Type 0} → Graph P Edge → ℕ → ℕ → ℕ → Bool
-joined g zero x y = eqb x y
-joined g (suc k) x y =
-    joined g k x y
-    || weighs g k && (joined g k x (g .a k) && joined g k (g .b k) y || joined g k x (g .b k) && joined g k (g .a k) y)
+unfoldable pub connected : {P : Type 0} → Graph P Edge → ℕ → ℕ → ℕ → Bool
+connected g zero x y = eqb x y
+connected g (suc k) x y =
+    connected g k x y
+    || weighs g k && (connected g k x (g .a k) && connected g k (g .b k) y || connected g k x (g .b k) && connected g k (g .a k) y)
 
 -- whether all edges join x to some fixed pose
 unfoldable pub reaches : {P : Type 0} → Graph P Edge → ℕ → Bool
-reaches g x = some (λ y. g .fixed y && joined g (g .edges) x y) (g .poses)
+reaches g x = some (λ y. g .fixed y && connected g (g .edges) x y) (g .poses)
 
 unfoldable pub isLoose : {P : Type 0} → Graph P Edge → ℕ → Bool
 isLoose g x = isFree g x && not (reaches g x)

@@ -27,13 +27,13 @@ abbrev pub renamed : ℕ → ℕ → ℕ → ℕ
 renamed old new l = if-then (eqb l old) new l
 
 -- new labels put a and b under one, and with them what had their labels; nothing else
-pub record Joins (a b : ℕ) (old new : ℕ → ℕ) : Type 0 where
+pub record MergesTwo (a b : ℕ) (old new : ℕ → ℕ) : Type 0 where
   pub same : (x y : ℕ) → old x ≡ old y → new x ≡ new y
   pub ends : new a ≡ new b
   pub apart : (x y : ℕ) → new x ≡ new y → (old x ≡ old y) ⊎ ((old x ≡ old a) × (old y ≡ old b)) ⊎ ((old x ≡ old b) × (old y ≡ old a))
 
--- new labels put the ends of each edge of non-zero weight below n under one; and a test that is equal at those ends, and under one old label, is equal
--- under one new
+-- new labels put the ends of each edge of non-zero weight below n under one, and no more than they must: a test with one value at those ends, and wherever
+-- old labels are one, has one value wherever new labels are
 pub record Merges {P : Type 0} (g : Graph P Edge) (n : ℕ) (old new : ℕ → ℕ) : Type 0 where
   pub same : (x y : ℕ) → old x ≡ old y → new x ≡ new y
   pub ends : (k : ℕ) → k < n → weighs g k ≡ true → new (g .a k) ≡ new (g .b k)

@@ -87,11 +87,10 @@ islandFaults g =
     fault 26 (isLoose g)
     ∷ []
 
--- rows 1 to 14 and 26: manifold, shape, numbers, free poses, islands, work
-abbrev pub graphRows : Input → List Row
-graphRows i =
+-- rows 1 to 13: manifold, shape, numbers, free poses
+abbrev pub rowsTo13 : Input → List Row
+rowsTo13 i =
     let g = graphOf i in
-    let free = freeCount g in
     row 1 (badGravity (i .manifold))
     ∷ row 2 (unfit (length (i .poses)) (length (i .ends)) (length (i .edges)) (i .room .out))
     ∷ row 3 (tooMany (g .poses) (g .edges) (length (i .fixed)))
@@ -100,11 +99,18 @@ graphRows i =
     ∷ placed (g .poses) (poseFaults g)
     ∷ placed (g .edges) (edgeFaults g)
     ∷ placed (length (i .fixed)) (fixedFaults (g .poses) (i .fixed))
-    ∷ row 12 (eqb free 0)
-    ∷ row 13 (ltb 64 free)
-    ∷ placed (g .poses) (islandFaults g)
-    ∷ row 14 (shortWork (dofOf (i .manifold) * free) (g .poses) (i .room .work32) (i .room .work64))
+    ∷ row 12 (eqb (freeCount g) 0)
+    ∷ row 13 (ltb 64 (freeCount g))
     ∷ []
+
+-- then islands (26) and work (14)
+abbrev pub graphRows : Input → List Row
+graphRows i =
+    let g = graphOf i in
+    rowsTo13 i
+    ++ (placed (g .poses) (islandFaults g)
+    ∷ row 14 (shortWork (dofOf (i .manifold) * freeCount g) (g .poses) (i .room .work32) (i .room .work64))
+    ∷ [])
 
 -- rows 15 to 19: limit, tolerances, first damping
 abbrev pub settingRows : Settings → List Row

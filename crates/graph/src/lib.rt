@@ -17,7 +17,7 @@ ghost use Rattle.pose_conversion.specs.Conversions.{finiteTransform};
 ghost use Rattle.graph.specs.Graph.{touches, isFree};
 ghost use Rattle.graph.specs.Lent.{dofOf, poseFrom, poseAt, numbersOf, edgeFrom, edgeAt, endA, endB, lentGraph, none, slotIn, lent, unset};
 ghost use Rattle.graph.specs.Islands.{weighs};
-ghost use Rattle.graph.specs.Labels.{labelOf, renamed, labelFaults, Joins, Labelled};
+ghost use Rattle.graph.specs.Labels.{labelOf, renamed, labelFaults, MergesTwo, Labelled};
 ghost use Rattle.graph.specs.Table.{badGravity, unfit, tooMany, shortWork, badTolerance, badDamping};
 ghost use Rattle.graph.specs.Table.{poseFaults, edgeFaults, fixedFaults, graphRows, settingRows, settle, blockNumber, graphChecks, checks};
 use numbers::Refusal;
@@ -532,9 +532,9 @@ fn relabel(labels: &mut [u32], old: u32, new: u32)
     }
 }
 
-// Poses a and b, and all with their labels, get the larger of the two.
-fn join(labels: &mut [u32], a: usize, b: usize)
-    ensures { λ _. ⌜ Joins a b (labelOf (now (labels .entry))) (labelOf (now (labels .exit))) ⌝ }
+// Poses a and b, and all with their labels, get the larger of the two. A label is read as a block is: none past the end.
+fn merge_labels(labels: &mut [u32], a: usize, b: usize)
+    ensures { λ _. ⌜ MergesTwo a b (labelOf (now (labels .entry))) (labelOf (now (labels .exit))) ⌝ }
 {
     let p = block_at(labels, a);
     let q = block_at(labels, b);
@@ -559,7 +559,7 @@ fn labelled(v: Verdict, blocks: [u32; 256], ends: &[u32], edges: &[f32]) -> [u32
     let mut k = 0;
     while k < n {
         if has_weight(edges, k) {
-            join(&mut labels, end_a(ends, k), end_b(ends, k));
+            merge_labels(&mut labels, end_a(ends, k), end_b(ends, k));
         }
         k += 1;
     }

@@ -66,10 +66,15 @@ read-join : (v : Verdict) (rs ss : List Row) → read v (rs ++ ss) ≡ read (rea
 read-join v [] ss = refl
 read-join v (r ∷ rs) ss = read-join (orElse v (lowest (r .faults) (r .places))) rs ss
 
-module _ (before : List Row) (r : Row) (after : List Row) (q : Refusal)
-    (other : amongRows (q .number) before ≡ false) (other' : amongRows (q .number) after ≡ false) where
-  pub row-spoke : verdict (before ++ (r ∷ after)) ≡ Refused q → (verdict before ≡ Fine) × (lowest (r .faults) (r .places) ≡ Refused q)
-  row-spoke e = go (verdict before) refl (read-other _ after q other' (sym (read-join Fine before (r ∷ after)) ∙ e))
+module _ (before : List Row) (r : Row) (after : List Row) (q : Refusal) where
+  pub row-speaks : verdict before ≡ Fine → lowest (r .faults) (r .places) ≡ Refused q → verdict (before ++ (r ∷ after)) ≡ Refused q
+  row-speaks h s =
+      let e : read (verdict before) (r ∷ after) ≡ Refused q = rw (h, s) (read-refused q after) in
+      read-join Fine before (r ∷ after) ∙ e
+
+  pub row-spoke : amongRows (q .number) before ≡ false → amongRows (q .number) after ≡ false
+      → verdict (before ++ (r ∷ after)) ≡ Refused q → (verdict before ≡ Fine) × (lowest (r .faults) (r .places) ≡ Refused q)
+  row-spoke other other' e = go (verdict before) refl (read-other _ after q other' (sym (read-join Fine before (r ∷ after)) ∙ e))
     where
       go : (v : Verdict) → verdict before ≡ v → orElse (verdict before) (lowest (r .faults) (r .places)) ≡ Refused q
           → (verdict before ≡ Fine) × (lowest (r .faults) (r .places) ≡ Refused q)
@@ -77,11 +82,6 @@ module _ (before : List Row) (r : Row) (after : List Row) (q : Refusal)
       go (Refused p) h s =
           let g : Refused p ≡ Refused q = ap (λ (v : Verdict). orElse v (lowest (r .faults) (r .places))) (sym h) ∙ s in
           absurd (refused-not-fine (sym (read-other Fine before q other (h ∙ g))))
-
-  pub row-speaks : verdict before ≡ Fine → lowest (r .faults) (r .places) ≡ Refused q → verdict (before ++ (r ∷ after)) ≡ Refused q
-  row-speaks h s =
-      let e : read (verdict before) (r ∷ after) ≡ Refused q = rw (h, s) (read-refused q after) in
-      read-join Fine before (r ∷ after) ∙ e
 
 -- ---- rows that look for one fault
 
@@ -92,14 +92,14 @@ lowest-ext c t u (suc n) h = rw (lowest-ext c t u n h, h n)
 
 -- whose first place speaks
 module _ (c : ℕ) (t : ℕ → Bool) where
-  passed : (n : ℕ) → ((q : ℕ) → q < n → t q ≡ false) → lowest (fault c t ∷ []) n ≡ Fine
-  passed zero h = refl
-  passed (suc n) h = rw (passed n (λ q l. h q (omega arith)), h n (omega arith))
+  none-earlier : (n : ℕ) → ((q : ℕ) → q < n → t q ≡ false) → lowest (fault c t ∷ []) n ≡ Fine
+  none-earlier zero h = refl
+  none-earlier (suc n) h = rw (none-earlier n (λ q l. h q (omega arith)), h n (omega arith))
 
   pub first-lowest : (n p : ℕ) → First t n p → lowest (fault c t ∷ []) n ≡ Refused (refusal c p)
   first-lowest n p f =
       let s : says (fault c t ∷ []) p ≡ Refused (refusal c p) = rw (f .holds) in
-      sym (lowest-hit (fault c t ∷ []) Fine (Refused (refusal c p)) p n refl (passed p (f .earlier)) (sym s) refl (f .below))
+      sym (lowest-hit (fault c t ∷ []) Fine (Refused (refusal c p)) p n refl (none-earlier p (f .earlier)) (sym s) refl (f .below))
 
   pub lowest-first : (n p : ℕ) → lowest (fault c t ∷ []) n ≡ Refused (refusal c p) → First t n p
   lowest-first zero p e = absurd (refused-not-fine (sym e))

@@ -35,7 +35,17 @@ is-finite64-requires-4 c κs = search needs
 
 returns-2 : tie.Need-returns-2
 unfolding badGravity ratio ofBits
-returns-2 c = rw (c .before .before .before .before .before .before .before .m .given .1) (cc)
+returns-2 c =
+    let t = c .before .before .before in
+    rw (
+      c .is-finite644 .ensures,
+      c .before .is-finite643 .ensures,
+      c .before .before .is-finite642 .ensures,
+      t .is-finite64 .ensures,
+      t .before .sqrt64 .ensures,
+      t .before .before .dot-of .ensures,
+      t .before .before .before .before .m .given .1,
+    )
 
 pub bad-gravity-spec : {M : Type 1} → statement M
 bad-gravity-spec =

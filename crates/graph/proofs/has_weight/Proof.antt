@@ -1,3 +1,4 @@
+use mathlib.Core.Path.{refl}
 use lib.Ieee.{ofBits, ne}
 use Rattle.numbers.specs.Notation.{ratio}
 use Rattle.graph.specs.Lent.{edgeFrom}
@@ -11,7 +12,7 @@ edge-at-requires c κs = search needs
 
 returns : tie.Need-returns
 unfolding weighs ratio ofBits edgeFrom ne
-returns c = rw (c .before .edge-at .ensures)
+returns c = rw (c .before .edge-at .ensures) refl
 
 pub has-weight-spec : {M : Type 1} → statement M
 has-weight-spec = tie.close (tie.spec edge-at-requires returns)

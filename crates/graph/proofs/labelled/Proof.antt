@@ -35,8 +35,8 @@ loop-holds c = (search needs, search needs, search needs, merge-none _ _)
 has-weight-requires : tie.Need-has-weight-requires Inv-loop μ-loop
 has-weight-requires c κs = search needs
 
-slice-aggregate-join : tie.Need-slice-aggregate-join Inv-loop μ-loop
-slice-aggregate-join c = search needs
+slice-aggregate-merge-labels : tie.Need-slice-aggregate-merge-labels Inv-loop μ-loop
+slice-aggregate-merge-labels c = search needs
 
 end-a-requires : tie.Need-end-a-requires Inv-loop μ-loop
 end-a-requires c κs = search needs
@@ -44,8 +44,8 @@ end-a-requires c κs = search needs
 end-b-requires : tie.Need-end-b-requires Inv-loop μ-loop
 end-b-requires c κs = search needs
 
-join-requires : tie.Need-join-requires Inv-loop μ-loop
-join-requires c κs = search needs
+merge-labels-requires : tie.Need-merge-labels-requires Inv-loop μ-loop
+merge-labels-requires c κs = search needs
 
 add-k : tie.Need-add-k Inv-loop μ-loop
 add-k c = search needs
@@ -89,10 +89,10 @@ labelled-spec =
     returns
     loop-holds
     has-weight-requires
-    slice-aggregate-join
+    slice-aggregate-merge-labels
     end-a-requires
     end-b-requires
-    join-requires
+    merge-labels-requires
     add-k
     loop-less
     loop-again

@@ -1,3 +1,4 @@
+use mathlib.Core.Path.{refl}
 use lib.Ieee.{ofBits, div}
 use Rattle.graph.specs.Lent.{edgeFrom}
 use Rattle.graph.proofs.no_edge.Statement.{statement}
@@ -5,7 +6,7 @@ use Rattle.graph.proofs.no_edge.Tie as tie
 
 returns : tie.Need-returns
 unfolding edgeFrom ofBits div
-returns c = cc
+returns c = refl
 
 pub no-edge-spec : {M : Type 1} → statement M
 no-edge-spec = tie.close (tie.spec returns)

@@ -1,3 +1,4 @@
+use mathlib.Core.Path.{refl}
 use lib.Ieee.{ofBits, div}
 use Rattle.graph.specs.Lent.{poseFrom}
 use Rattle.graph.proofs.no_pose.Statement.{statement}
@@ -5,7 +6,7 @@ use Rattle.graph.proofs.no_pose.Tie as tie
 
 returns : tie.Need-returns
 unfolding poseFrom ofBits div
-returns c = cc
+returns c = refl
 
 pub no-pose-spec : {M : Type 1} → statement M
 no-pose-spec = tie.close (tie.spec returns)

@@ -9,10 +9,10 @@ enum-known-v : tie.Need-enum-known-v
 enum-known-v c = search needs
 
 returns : tie.Need-returns
-returns c = cc
+returns c = rw (c .enum-told .given .1)
 
 returns-2 : tie.Need-returns-2
-returns-2 c = cc
+returns-2 c = rw (c .before .v .given .1)
 
 pub settled-spec : {M : Type 1} → statement M
 settled-spec = tie.close (tie.spec enum-told enum-known-v returns returns-2)

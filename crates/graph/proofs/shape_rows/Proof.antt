@@ -18,7 +18,9 @@ row-5-requires : tie.Need-row-5-requires
 row-5-requires c κs = search needs
 
 returns : tie.Need-returns
-returns c = rw (c .row-5 .ensures, c .before .row-4 .ensures, c .before .before .row-3 .ensures, c .before .before .before .row-2 .ensures, c .before .before .before .before .row-1 .ensures)
+returns c =
+    let t = c .before .before in
+    rw (c .row-5 .ensures, c .before .row-4 .ensures, t .row-3 .ensures, t .before .row-2 .ensures, t .before .before .row-1 .ensures)
 
 pub shape-rows-spec : {M : Type 1} → statement M
 shape-rows-spec =

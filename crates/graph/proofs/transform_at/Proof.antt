@@ -45,7 +45,18 @@ at32-requires-7 c κs = search needs
 
 returns : tie.Need-returns
 unfolding edgeFrom
-returns c = cc (add-zero (c .before .before .before .before .before .before .before .before .args .at))
+returns c =
+    let t = c .before .before .before in
+    rw (
+      c .at327 .ensures,
+      c .before .at326 .ensures,
+      c .before .before .at325 .ensures,
+      t .at324 .ensures,
+      t .before .at323 .ensures,
+      t .before .before .at322 .ensures,
+      t .before .before .before .at32 .ensures,
+      add-zero (t .before .before .before .before .before .args .at),
+    )
 
 pub transform-at-spec : {M : Type 1} → statement M
 transform-at-spec =

@@ -18,7 +18,9 @@ row-19-requires : tie.Need-row-19-requires
 row-19-requires c κs = search needs
 
 returns : tie.Need-returns
-returns c = rw (c .row-19 .ensures, c .before .row-18 .ensures, c .before .before .row-17 .ensures, c .before .before .before .row-16 .ensures, c .before .before .before .before .row-15 .ensures)
+returns c =
+    let t = c .before .before in
+    rw (c .row-19 .ensures, c .before .row-18 .ensures, t .row-17 .ensures, t .before .row-16 .ensures, t .before .before .row-15 .ensures)
 
 pub validate-settings-spec : {M : Type 1} → statement M
 validate-settings-spec =

@@ -1,8 +1,8 @@
 use native.Mathlib.Omega.{arith}
-use Rattle.graph.proofs.Labelling.{larger-joins, smaller-joins, same-joins}
+use Rattle.graph.proofs.Labelling.{larger-merges, smaller-merges, same-merges}
 use borrow.Author.Needs.{needs}
-use Rattle.graph.proofs.join.Statement.{statement}
-use Rattle.graph.proofs.join.Tie as tie
+use Rattle.graph.proofs.merge_labels.Statement.{statement}
+use Rattle.graph.proofs.merge_labels.Tie as tie
 
 block-at-requires : tie.Need-block-at-requires
 block-at-requires c κs = search needs
@@ -22,7 +22,7 @@ returns c =
     let p = c .before .before .before .before .before .before .before .block-at in
     let q = c .before .before .before .before .before .block-at2 in
     let r = c .before .before .relabel in
-    larger-joins (a .labels .now) (r .last .0) (a .a) (a .b) _ _ (p .ensures) (q .ensures) (c .before .before .before .before .if1 .taken)
+    larger-merges (a .labels .now) (r .last .0) (a .a) (a .b) _ _ (p .ensures) (q .ensures) (c .before .before .before .before .if1 .taken)
     (omega arith) (r .kept .0) (r .ensures)
 
 relabel-requires-2 : tie.Need-relabel-requires-2
@@ -37,7 +37,7 @@ returns-2 c =
     let p = c .before .before .before .before .before .before .before .before .block-at in
     let q = c .before .before .before .before .before .before .block-at2 in
     let r = c .before .before .relabel2 in
-    smaller-joins (a .labels .now) (r .last .0) (a .a) (a .b) _ _ (p .ensures) (q .ensures) (c .before .before .before .before .if2 .taken)
+    smaller-merges (a .labels .now) (r .last .0) (a .a) (a .b) _ _ (p .ensures) (q .ensures) (c .before .before .before .before .if2 .taken)
     (omega arith) (r .kept .0) (r .ensures)
 
 same-length-3 : tie.Need-same-length-3
@@ -46,11 +46,11 @@ same-length-3 c = search needs
 returns-3 : tie.Need-returns-3
 returns-3 c =
     let a = c .before .before .before .before .before .before .before .args in
-    same-joins (a .labels .now) (a .a) (a .b) _ _ (c .before .before .before .before .block-at .ensures) (c .before .before .block-at2 .ensures)
+    same-merges (a .labels .now) (a .a) (a .b) _ _ (c .before .before .before .before .block-at .ensures) (c .before .before .block-at2 .ensures)
     (c .before .if1 .left) (c .if2 .left)
 
-pub join-spec : {M : Type 1} → statement M
-join-spec =
+pub merge-labels-spec : {M : Type 1} → statement M
+merge-labels-spec =
     tie.close
     (tie.spec
     block-at-requires
