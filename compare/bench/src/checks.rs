@@ -9,7 +9,7 @@ use crate::graphs::{best_order, bystanders, worst_order, EDGES, FREE, POSES};
 use crate::islands::Search;
 use crate::timing::{in_turn, median, Assembly, Whole};
 
-/// The search may take this part of an assembly (Wish 6).
+/// The search may take this part of an assembly.
 const MOST: f64 = 1.0 / 20.0;
 
 /// It can't take less than this part of rows 1 to 13, which go through the same edges. Where it seems to, it was not seen:

@@ -51,7 +51,7 @@ solves: one damped solve of the first system, by the stand-in's dense rule on on
 The original makes its lists on the heap; the port writes into lent work, allocated before the clock starts.
 checks at the limits: microseconds a call, of the port alone. rows 1 to 13: a run that 13 refuses, for one free pose too
   many. search: what a run that 15 refuses takes more than that, which is row 26 (14 and 15 go through no list).
-  assembly: pgo_assemble, all checks included; by Wish 6 of document 02 the search takes at most 1/20 of one. In any order
+  assembly: pgo_assemble, all checks included; the search may take 1/20 of one (docs/wishes/6.md). In any order
   of its edges a graph that passes has one renaming for each free pose, and each renaming goes through all 256 labels.
   worst order: a renaming changes the labels of all free poses joined so far, at edges hard to foresee; best order: the
   same edges, but it changes one label, and the joining edges come first; bystanders: but for one edge a free pose all

@@ -123,7 +123,7 @@ mod tests {
     /// A free pose hangs on a fixed one, to which another fixed one is joined; an edge of weight 0
     /// names a pose all the same.
     #[test]
-    fn edges_between_fixed_poses_join_and_named_poses_are_asked() {
+    fn edges_between_fixed_poses_harm_nothing_and_named_poses_are_asked() {
         let mut case = two_poses(1.0, 1.0);
         case.poses = case.poses[..12].repeat(5);
         joined(&mut case, 1, 2, 1.0);

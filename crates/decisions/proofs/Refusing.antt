@@ -18,7 +18,6 @@ use Rattle.decisions.specs.declared.Trial.the-variants as trial
 use Rattle.decisions.specs.declared.Why.{Why}
 use Rattle.decisions.specs.declared.Why.the-variants as why
 use Rattle.decisions.specs.declared.End.the-variants as end
-use Rattle.decisions.specs.declared.Gate.{Gate}
 use Rattle.decisions.specs.declared.Gate.the-variants as gate
 use Rattle.decisions.specs.declared.Next.{Next}
 use Rattle.decisions.specs.declared.Next.the-variants as next
@@ -39,10 +38,10 @@ module _ (Q : Refusal → Type 0) where
   refused : (s : State) (q : Refusal) → Q q → Ends (next.Over s (end.Refused q))
   refused s q h t r e = let d : q ≡ r = cc in subst Q d h
 
-  either : (b : Bool) (n m : Next) → Ends n → Ends m → Ends (if-then b n m)
+  chosen : (b : Bool) (n m : Next) → Ends n → Ends m → Ends (if-then b n m)
   unfolding if-then
-  either true n m f g = f
-  either false n m f g = g
+  chosen true n m f g = f
+  chosen false n m f g = g
 
   -- the top, whose assembly refuses by Q alone
   abbrev pub Assembles : Assembly → Type 0
@@ -51,10 +50,10 @@ module _ (Q : Refusal → Type 0) where
   module _ (damped : Q (refusal 22 0)) (limit : ℕ) (tolerance : Float) where
     solved-ends : (s : State) (o : Outcome) → Ends (solved s limit tolerance o)
     unfolding solved failing accepting rejecting
-    solved-ends s outcome.Failed = either _ _ _ (refused _ _ damped) (on _)
+    solved-ends s outcome.Failed = chosen _ _ _ (refused _ _ damped) (on _)
     solved-ends s outcome.Small = stopped _ _
-    solved-ends s (outcome.Tried (trial.Accepted new)) = either _ _ _ (stopped _ _) (on _)
-    solved-ends s (outcome.Tried (trial.Rejected r)) = either _ _ _ (stopped _ _) (either _ _ _ (stopped _ _) (on _))
+    solved-ends s (outcome.Tried (trial.Accepted new)) = chosen _ _ _ (stopped _ _) (on _)
+    solved-ends s (outcome.Tried (trial.Rejected r)) = chosen _ _ _ (stopped _ _) (chosen _ _ _ (stopped _ _) (on _))
 
     turned-ends : (s : State) (a : Assembly) (e : Raw) → Assembles a → Ends (turned limit tolerance s a e)
     unfolding turned passed assembled thenSolve if-then

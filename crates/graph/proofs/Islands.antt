@@ -3,19 +3,15 @@ use Prim.Native.Nat.{ℕ, zero, suc, _<_}
 use native.Mathlib.Omega.{arith}
 use native.Mathlib.Nat.{not-suc-le-zero, eq-or-lt-of-le, le-of-suc-le-suc}
 use mathlib.Core.Path.{_≡_, refl, sym, subst, _∙_}
-use mathlib.Core.Logic.{_⊎_, inl, inr, ⊎-elim}
+use mathlib.Core.Logic.{⊎-elim}
 use mathlib.Core.Bool.{Bool, true, false, not, _&&_, _||_, true≢false}
 use borrow.Author.Tests.{eqb-true, eq-eqb}
-use Rattle.numbers.proofs.Tests.{and-first, and-second}
+use Rattle.numbers.proofs.Tests.{and-first, and-second, or-cases}
 use Rattle.numbers.proofs.Walking.{some-hit}
 use Rattle.numbers.proofs.Firsts.{some-found}
 use Rattle.graph.specs.declared.Edge.{Edge}
 use Rattle.graph.specs.Graph.{Graph, isFree}
 use Rattle.graph.specs.Islands.{weighs, Path, here, along, against, Reaches, Loose, connected, reaches, isLoose}
-
-either : (a b : Bool) → (a || b) ≡ true → (a ≡ true) ⊎ (b ≡ true)
-either true b e = inl refl
-either false b e = inr e
 
 module _ {P : Type 0} (g : Graph P Edge) where
   -- two paths, one after the other
@@ -40,8 +36,8 @@ module _ {P : Type 0} (g : Graph P Edge) where
       (λ (f : (connected g k x (g .b k) && connected g k (g .a k) y) ≡ true).
       then-path (connected-path k (omega arith) x (g .b k) (and-first _ _ f))
       (against k (omega arith) w (connected-path k (omega arith) (g .a k) y (and-second (connected g k x (g .b k)) _ f))))
-      (either _ _ (and-second (weighs g k) _ h)))
-      (either _ _ e)
+      (or-cases _ _ (and-second (weighs g k) _ h)))
+      (or-cases _ _ e)
 
   -- ---- and all of it
   connected-here : (k x : ℕ) → connected g k x x ≡ true

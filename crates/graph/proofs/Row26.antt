@@ -1,5 +1,5 @@
--- Refusal 26 is given exactly where the paths say so, whatever the rows after it would say: `refused-26`, `refused-26-graph`, `any-loose`; and always where
--- nothing is fixed: `nothing-fixed`. Assumes nothing.
+-- Refusal 26 is given exactly where the paths say so, whatever the rows after it would say: `refused-26`, `refused-26-graph`, `any-loose`; and where
+-- rows 1 to 13 say nothing and nothing is fixed: `nothing-fixed`. Assumes nothing.
 use Prim.Native.Nat.{ℕ, _<_, _≤_}
 use native.Mathlib.Omega.{arith}
 use mathlib.Core.Path.{_≡_, refl, sym, ap, _∙_}
@@ -113,8 +113,8 @@ pub record Unanchored (i : Input) : Type 0 where
 
 pub nothing-fixed : (i : Input) → verdict (rowsTo13 i) ≡ Fine → ((y : ℕ) → y < graphOf i .poses → graphOf i .fixed y ≡ false) → Unanchored i
 nothing-fixed i e h =
-    let none-free = eqb-false (freeCount (graphOf i)) 0 (ask-fine _ 12 0 (row-at Fine (rowsTo13 i) 8 e)) in
-    let f = count-found (isFree (graphOf i)) (graphOf i .poses) (omega (arith, none-free)) in
+    let some-free = eqb-false (freeCount (graphOf i)) 0 (ask-fine _ 12 0 (row-at Fine (rowsTo13 i) 8 e)) in
+    let f = count-found (isFree (graphOf i)) (graphOf i .poses) (omega (arith, some-free)) in
     record {
       pose = f .place;
       first-free = f .first;

@@ -15,7 +15,7 @@ use Rattle.numbers.specs.Refusals.{orElse, ask, Fault, fault, askAll, sa
 pub refused-not-fine : {r : Refusal} → Refused r ≡ Fine → ⊥
 refused-not-fine e = let z : _≡_ {A = ℕ} 0 1 = cc in omega arith
 
-pub or-first : (v w : Verdict) → orElse v w ≡ Fine → v ≡ Fine
+or-first : (v w : Verdict) → orElse v w ≡ Fine → v ≡ Fine
 or-first Fine w e = refl
 or-first (Refused r) w e = e
 

@@ -22,3 +22,7 @@ neither-first false b e = refl
 pub neither-second : (a b : Bool) → (a || b) ≡ false → b ≡ false
 neither-second true b e = absurd (true≢false e)
 neither-second false b e = e
+
+pub or-cases : (a b : Bool) → (a || b) ≡ true → (a ≡ true) ⊎ (b ≡ true)
+or-cases true b e = inl refl
+or-cases false b e = inr e
