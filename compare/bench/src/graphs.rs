@@ -1,4 +1,4 @@
-//! The graphs that are timed: two as they come, and three at document 01's limits.
+//! The graphs that are timed: rings with loop edges, on either manifold, and three at document 01's limits.
 
 use restated::case::Case;
 use restated::graphs::calm_ring;
@@ -10,9 +10,18 @@ pub fn ring_of_fifty() -> Case {
     calm_ring(&mut Random::of_case(50, 0, 0), 50, 6)
 }
 
-/// Pose 0 fixed, 64 free poses, n = 384: a ring and loop edges up to 1,000 in all.
-pub fn thousand_edges() -> Case {
-    calm_ring(&mut Random::of_case(1000, 0, 0), 65, 1000 - 65)
+/// Pose 0 fixed, 64 free poses, n = 384: a ring and loop edges up to so many in all, of which the first join the
+/// same poses however many there are.
+pub fn ring_of_sixty_five(edges: usize) -> Case {
+    calm_ring(&mut Random::of_case(1000, 0, 0), 65, edges - 65)
+}
+
+/// The graph as it is, with DOF 6, and with gravity, DOF 4.
+pub fn both_manifolds(case: Case) -> [Case; 2] {
+    let mut with_gravity = case.clone();
+    with_gravity.gravity = Some([0.0, 0.0, -9.81]);
+    with_gravity.fit();
+    [case, with_gravity]
 }
 
 pub const POSES: usize = 256;
@@ -109,4 +118,24 @@ fn at_the_limits(edges: impl IntoIterator<Item = (Pair, bool)>) -> Case {
     }
     case.fit();
     case
+}
+
+#[cfg(test)]
+mod tests {
+    use super::*;
+
+    #[test]
+    fn ring_has_its_edges_which_begin_as_those_of_a_larger_one_and_64_free_poses() {
+        let largest = ring_of_sixty_five(1000);
+        for edges in [65, 125, 1000] {
+            let case = ring_of_sixty_five(edges);
+            assert_eq!(case.edge_count(), edges);
+            let unknowns = both_manifolds(case.clone()).map(|case| case.unknowns());
+            assert_eq!(unknowns, [384, 256]);
+            let pairs = case.ends.chunks_exact(2).zip(largest.ends.chunks_exact(2));
+            for (ends, others) in pairs {
+                assert!(ends == others || ends == [others[1], others[0]]);
+            }
+        }
+    }
 }

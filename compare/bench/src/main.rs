@@ -8,13 +8,14 @@ mod graphs;
 mod inputs;
 mod islands;
 mod numbers;
+mod sizes;
 mod timing;
 
 use std::process::ExitCode;
 
-use graphs::{ring_of_fifty, thousand_edges};
+use graphs::{both_manifolds, ring_of_fifty, ring_of_sixty_five};
 use restated::case::Case;
-use timing::{medians, milliseconds, Pair};
+use timing::{medians, milliseconds, Assembly, Both, Solve, Whole};
 
 const ROUNDS: usize = 9;
 
@@ -43,12 +44,18 @@ fn rounds(arguments: &[String]) -> Result<usize, String> {
 
 const MEANING: &str = "\
 What the numbers mean: medians in milliseconds over interleaved runs, port and original in one process on one machine.
+  In the lines with the original each time is the mean of 1, 2, 4 or more calls, so many that they last 5 ms together.
+DOF 6: the plain manifold; DOF 4: the same graph with gravity, along -z.
 assembly: the graph's checks, Jacobians, gradient and Hessian, once, at the first poses. The original's is the code of
   sparse_pgo.rs as it stands over stand-in rotations (document 01's f64 arithmetic), so the two do the same arithmetic.
 whole run: checks to output. The original solves by the stand-in of faer, which is document 01's dense rule and no
   sparse solver: the ratio compares two programs under the same rules, and says nothing about the real faer.
 solves: one damped solve of the first system, by the stand-in's dense rule on one side and the port's solve on the other.
 The original makes its lists on the heap; the port writes into lent work, allocated before the clock starts.
+assembly by number of edges: the same with 125 to 1,000 edges between 65 poses, all these lines in turn; milliseconds a
+  call, and microseconds an edge, which stay about the same where the time grows linearly. What does not grow with the
+  edges is in them too, and weighs more where edges are few: the port clears n (n + 3) numbers, and works out the
+  transforms of all poses and the probes of the free ones; pgo_assemble clears a system of its own and copies it.
 checks at the limits: microseconds a call, of the port alone. rows 1 to 13: a run that 13 refuses, for one free pose too
   many. search: what a run that 15 refuses takes more than that, which is row 26 (14 and 15 go through no list).
   assembly: pgo_assemble, all checks included; the search may take 1/20 of one (docs/wishes/6.md). In any order
@@ -65,43 +72,55 @@ roots and narrowing: nanoseconds a call, of independent calls | of calls that ea
 /// Whether all that was compared agreed.
 fn bench(rounds: usize) -> bool {
     println!("{MEANING}\n");
-    let cases = [
+    let graphs = [
         ("ring of 50 views, 6 loop edges", ring_of_fifty()),
-        ("64 free poses, 1,000 edges", thousand_edges()),
+        ("64 free poses, 1,000 edges", ring_of_sixty_five(1000)),
     ];
     let mut agreed = true;
-    for (name, case) in &cases {
-        let (answer, same) = answer_line(case);
-        agreed &= same;
-        let sizes = format!("{} edges, n = {}", case.edge_count(), case.unknowns());
-        println!("{name} ({sizes}); {answer}");
-        line("assembly", medians(rounds, &timing::Assembly::new(case)));
-        line("solve", medians(rounds, &timing::Solve::new(case)));
-        line("whole run", medians(rounds, &timing::Whole::new(case)));
+    for (name, graph) in graphs {
+        for case in both_manifolds(graph) {
+            agreed &= lines(rounds, name, &case);
+            println!();
+        }
+    }
+    for part in [sizes::bench, checks::bench] {
+        agreed &= part(rounds);
         println!();
     }
-    agreed &= checks::bench(rounds);
-    println!();
     numbers::bench(rounds) && agreed
 }
 
-/// The port's answer, and whether the original's poses have the same bits.
+/// Prints what is timed of one graph on its manifold; whether all that was compared agreed.
+fn lines(rounds: usize, name: &str, case: &Case) -> bool {
+    let (answer, agreed) = answer_line(case);
+    let (edges, dof, n) = (case.edge_count(), case.dof(), case.unknowns());
+    println!("{name} ({edges} edges, DOF {dof}, n = {n}); {answer}");
+    line(rounds, "assembly", Assembly::new(case));
+    line(rounds, "solve", Solve::new(case));
+    line(rounds, "whole run", Whole::new(case));
+    agreed
+}
+
+/// The port's answer, and whether the original's poses, Hessian and gradient have the same bits.
 fn answer_line(case: &Case) -> (String, bool) {
-    let whole = timing::Whole::new(case);
+    let (assembly, whole) = (Assembly::new(case), Whole::new(case));
     let (number, answer) = whole.answer();
     let counts = format!(
         "iterations {}, A {}, R {}, F {}, stop {}",
         answer[2], answer[4], answer[5], answer[6], answer[7]
     );
-    match (number, whole.agrees()) {
-        (0, true) => (format!("{counts}, poses as the original's"), true),
-        (0, false) => (format!("{counts}, POSES DIFFER FROM THE ORIGINAL'S"), false),
-        _ => (format!("refused {number} at {}", answer[1]), false),
-    }
+    let (text, agreed) = match (number, whole.agrees(), assembly.agrees()) {
+        (0, true, true) => ("poses, Hessian and gradient as the original's", true),
+        (0, false, _) => ("POSES DIFFER FROM THE ORIGINAL'S", false),
+        (0, _, false) => ("HESSIAN OR GRADIENT DIFFER FROM THE ORIGINAL'S", false),
+        _ => return (format!("refused {number} at {}", answer[1]), false),
+    };
+    (format!("{counts}, {text}"), agreed)
 }
 
-fn line(name: &str, pair: Pair) {
-    let (port, original) = (milliseconds(pair.port), milliseconds(pair.original));
-    let ratio = port / original;
+fn line(rounds: usize, name: &str, thing: impl Both) {
+    let pair = &medians(rounds, &[thing])[0];
+    let [port, original] = [pair.port, pair.original].map(milliseconds);
+    let ratio = pair.ratio();
     println!("  {name:<10} port {port:>10.3} ms   original {original:>10.3} ms   port/original {ratio:.2}");
 }

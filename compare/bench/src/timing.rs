@@ -1,15 +1,26 @@
-//! One thing timed on both sides, in turn, and the medians.
+//! Things timed on both sides, in turn, and the medians: assembly, solve and whole run, each on its case's manifold.
 
 use std::cell::RefCell;
 use std::hint::black_box;
 use std::time::{Duration, Instant};
 
+use restated::assembly::laid_out;
 use restated::case::{Case, Owned};
 use restated::expect::flat;
+use restated::{all_same32, all_same64};
+
+/// What is timed beside the original lasts at least so long, by as many calls as that takes.
+const LEAST: Duration = Duration::from_millis(5);
 
 pub struct Pair {
     pub port: Duration,
     pub original: Duration,
+}
+
+impl Pair {
+    pub fn ratio(&self) -> f64 {
+        self.port.as_secs_f64() / self.original.as_secs_f64()
+    }
 }
 
 pub trait Both {
@@ -51,24 +62,41 @@ pub fn in_turn(turns: usize, works: &[(usize, impl Fn())]) -> Vec<Vec<Duration>>
     times
 }
 
-/// One run of each to warm up, then each round one of both, the first to go changing.
-pub fn medians(rounds: usize, both: &impl Both) -> Pair {
-    both.port();
-    both.original();
-    let (mut port, mut original) = (Vec::new(), Vec::new());
-    for round in 0..rounds {
-        if round % 2 == 0 {
-            port.push(timed(|| both.port()));
+/// One side's calls, a power of two of them, that last `LEAST` together.
+struct Sample<'a, T> {
+    thing: &'a T,
+    side: fn(&T),
+    calls: u32,
+}
+
+impl<'a, T> Sample<'a, T> {
+    fn new(thing: &'a T, side: fn(&T)) -> Self {
+        let calls = 1;
+        let mut sample = Self { thing, side, calls };
+        while timed(|| sample.run()) < LEAST {
+            sample.calls *= 2;
         }
-        original.push(timed(|| both.original()));
-        if round % 2 == 1 {
-            port.push(timed(|| both.port()));
-        }
+        sample
     }
-    Pair {
-        port: median(&port),
-        original: median(&original),
+
+    fn run(&self) {
+        (0..self.calls).for_each(|_| (self.side)(self.thing));
     }
+}
+
+/// What a call of each thing takes on either side, by the median of the samples; those of all are taken in turn.
+pub fn medians<T: Both>(rounds: usize, things: &[T]) -> Vec<Pair> {
+    let both = |thing| [T::port, T::original].map(|side| Sample::new(thing, side));
+    let samples: Vec<_> = things.iter().flat_map(both).collect();
+    let works: Vec<_> = samples.iter().map(|sample| (1, || sample.run())).collect();
+    let times = in_turn(rounds, &works);
+    let a_call = |(sample, times): (&Sample<T>, &Vec<Duration>)| median(times) / sample.calls;
+    let calls: Vec<_> = samples.iter().zip(&times).map(a_call).collect();
+    let pair = |sides: &[Duration]| Pair {
+        port: sides[0],
+        original: sides[1],
+    };
+    calls.chunks_exact(2).map(pair).collect()
 }
 
 /// A case with its lent work, both forms made before any clock starts.
@@ -89,8 +117,8 @@ impl<'a> Prepared<'a> {
 
     fn assemble(&self) -> u32 {
         let inputs = port::Assembly {
-            dof: 6,
-            gravity: &[0.0; 3],
+            dof: self.case.dof() as u32,
+            gravity: self.case.gravity.as_ref().unwrap_or(&[0.0; 3]),
             poses: &self.case.poses,
             ends: &self.case.ends,
             edges: &self.case.edges,
@@ -102,7 +130,12 @@ impl<'a> Prepared<'a> {
     fn system(&self) -> original::System {
         let blocks = original::blocks(self.owned.plain()).expect("the bench's graphs are good");
         let (poses, edges) = (&self.owned.poses, &self.owned.edges);
-        original::assemble(None, poses, edges, &blocks).expect("the bench's graphs assemble")
+        let system = original::assemble(self.case.axis(), poses, edges, &blocks);
+        system.expect("the bench's graphs assemble")
+    }
+
+    fn run(&self) -> Result<original::Finished, String> {
+        original::optimize(self.case.axis(), self.owned.plain(), &self.case.params())
     }
 }
 
@@ -116,6 +149,13 @@ impl<'a> Assembly<'a> {
     /// The port's answer.
     pub fn answer(&self) -> u32 {
         self.0.assemble()
+    }
+
+    /// The port answers 0, and its Hessian and gradient are the original's to the bit.
+    pub fn agrees(&self) -> bool {
+        let system = self.0.system();
+        let work = laid_out(self.0.case, system.blocks(), system.gradient());
+        self.answer() == 0 && all_same32(&work, &self.0.work32.borrow())
     }
 }
 
@@ -200,16 +240,19 @@ impl<'a> Whole<'a> {
             answer: &mut answer,
             costs: &mut costs,
         };
-        (port::optimize(inputs, lent), answer)
+        let number = match case.gravity {
+            None => port::optimize(inputs, lent),
+            Some(gravity) => port::optimize_with_gravity(gravity, inputs, lent),
+        };
+        (number, answer)
     }
 }
 
 impl Whole<'_> {
     /// After `answer`: the poses written are the original's to the bit.
     pub fn agrees(&self) -> bool {
-        let params = self.prepared.case.params();
-        match original::optimize(None, self.prepared.owned.plain(), &params) {
-            Ok(run) => restated::all_same64(&flat(&run.poses), &self.out.borrow()),
+        match self.prepared.run() {
+            Ok(run) => all_same64(&flat(&run.poses), &self.out.borrow()),
             Err(_) => false,
         }
     }
@@ -221,11 +264,33 @@ impl Both for Whole<'_> {
     }
 
     fn original(&self) {
-        let params = self.prepared.case.params();
-        let _ = black_box(original::optimize(
-            None,
-            self.prepared.owned.plain(),
-            &params,
-        ));
+        let _ = black_box(self.prepared.run());
+    }
+}
+
+#[cfg(test)]
+mod tests {
+    use std::thread::sleep;
+
+    use super::*;
+    use crate::graphs::{both_manifolds, ring_of_fifty};
+
+    #[test]
+    fn sides_agree_on_both_manifolds_and_a_difference_is_seen() {
+        for case in &both_manifolds(ring_of_fifty()) {
+            let (mut assembly, mut whole) = (Assembly::new(case), Whole::new(case));
+            assert_eq!(whole.answer().0, 0);
+            assert!(assembly.agrees() && whole.agrees());
+            assembly.0.owned.poses.swap(1, 2);
+            whole.prepared.owned.poses.swap(1, 2);
+            assert!(!assembly.agrees() && !whole.agrees());
+        }
+    }
+
+    #[test]
+    fn sample_has_no_more_calls_than_it_takes() {
+        let wait: fn(&Duration) = |time| sleep(*time);
+        assert_eq!(Sample::new(&LEAST, wait).calls, 1);
+        assert!(Sample::new(&(LEAST / 4), wait).calls <= 4);
     }
 }

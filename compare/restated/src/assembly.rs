@@ -1,5 +1,7 @@
 //! What assembly alone must give: the refusal's number, or the needed work in the layout of DESIGN.md.
 
+use std::collections::BTreeMap;
+
 use original_hooked as rust;
 
 use crate::case::Case;
@@ -13,14 +15,21 @@ pub fn assembled(case: &Case) -> Result<Vec<f32>, u32> {
     let owned = case.owned();
     let blocks = rust::blocks(owned.hooked()).expect("what the table lets pass, the original does");
     let system = rust::assemble(case.axis(), &owned.poses, &owned.edges, &blocks);
-    system.map(|system| laid_out(case, &system)).map_err(|_| 21)
+    system
+        .map(|system| laid_out(case, system.blocks(), system.gradient()))
+        .map_err(|_| 21)
 }
 
-/// H(i,j), j ≤ i, at j·n+i; the gradient at n·n+n+i; the rest +0.
-fn laid_out(case: &Case, system: &rust::System) -> Vec<f32> {
+/// A system's blocks, by row and column, and its gradient in the needed work: H(i,j), j ≤ i, at j·n+i; the gradient at
+/// n·n+n+i; the rest +0.
+pub fn laid_out(
+    case: &Case,
+    blocks: &BTreeMap<(usize, usize), Vec<f32>>,
+    gradient: &[f32],
+) -> Vec<f32> {
     let (dof, n) = (case.dof(), case.unknowns());
     let mut work = vec![0.0; n * (n + 3)];
-    for ((block_row, block_column), block) in system.blocks() {
+    for ((block_row, block_column), block) in blocks {
         for (at, value) in block.iter().enumerate() {
             let i = block_row * dof + at / dof;
             let j = block_column * dof + at % dof;
@@ -29,6 +38,6 @@ fn laid_out(case: &Case, system: &rust::System) -> Vec<f32> {
             }
         }
     }
-    work[n * n + n..n * n + 2 * n].copy_from_slice(system.gradient());
+    work[n * n + n..n * n + 2 * n].copy_from_slice(gradient);
     work
 }

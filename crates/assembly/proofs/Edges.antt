@@ -24,16 +24,21 @@ use Rattle.graph.specs.declared.Edge.{Edge}
 use Rattle.graph.specs.declared.Manifold.{Manifold}
 use Rattle.graph.specs.declared.Slot.{Slot}
 use Rattle.graph.specs.declared.Slot.the-variants.{Block, Fixed}
-use Rattle.residual.specs.Residuals.{residualOf, sixOf}
-use Rattle.residual.specs.declared.Residual.{Residual}
-use Rattle.residual.specs.declared.Residual.the-variants.{Six, Failed}
+use Rattle.pose_conversion.specs.declared.Converted.{Converted}
+use Rattle.residual.specs.Residuals.{sixOf}
+use Rattle.residual.specs.declared.Link.{Link}
+use Rattle.residual.specs.declared.Linked.{Linked}
+use Rattle.residual.specs.declared.Linked.the-variants as linked
 use Rattle.solve.specs.Work.{need}
-use Rattle.assembly.specs.Jacobians.{withSix, jacobianOf, codeOf, wentOf}
-use Rattle.assembly.specs.Assembly.{lowerTriangle, endOf, crossOf, withJacobian, endsOf, oneOf, bothOf, edgeOf, addAt, cleared, assembledEnds, assembledFrom, assembledOf}
-use Rattle.assembly.specs.declared.EdgeEndpoint.{EdgeEndpoint}
-use Rattle.assembly.specs.declared.EdgeEndpoint.the-variants.{A, B}
+use Rattle.assembly.specs.Jacobians.{codeOf, wentOf}
+use Rattle.assembly.specs.FromParts.{jacobianIn, withLink, oneIn, bothIn}
+use Rattle.assembly.specs.Assembly.{lowerTriangle, endOf, crossOf, withJacobian, endsOf, edgeOf, addAt, cleared, assembledEnds, assembledFrom, assembledOf}
+use Rattle.residual.specs.declared.EdgeEndpoint.{EdgeEndpoint}
+use Rattle.residual.specs.declared.EdgeEndpoint.the-variants.{A, B}
+use Rattle.assembly.specs.declared.Assembled.{Assembled}
 use Rattle.assembly.specs.declared.Assembled.the-variants as assembled
 use Rattle.assembly.proofs.Going.{code-kept}
+use Rattle.assembly.proofs.Laws.{cleared-length}
 
 -- ---- two free ends
 module _ (n dof i k : ℕ) (ja jb : List (List Float)) (r w : List Float) {x : Went} {wa : List Float} (a : (x, wa) ≡ endOf lowerTriangle n dof i ja r w) where
@@ -51,54 +56,57 @@ module _ (n dof i k : ℕ) (ja jb : List (List Float)) (r w : List Float) {x : W
     ends-had f h = rw (← a, e, ← b, f) h
 
 -- ---- a Jacobian whose answer was lent as a number
-said : {J : Went × List (List Float)} {code : ℕ} {j : List (List Float)} {x y : Went} → (code ≡ codeOf (J .0)) × (j ≡ J .1) → x ≡ wentOf code → x ≡ y → J ≡ (y, j)
+said : {J : Went × List (List Float)} {code : ℕ} {j : List (List Float)} {x y : Went} → (code ≡ codeOf (J .0)) × (j ≡ J .1) → x ≡ wentOf code → x ≡ y
+    → J ≡ (y, j)
 said {J} {x = x} {y = y} h e f =
     let g : J .0 ≡ y = sym (code-kept (J .0)) ∙ ap wentOf (sym (h .0)) ∙ sym e ∙ f in
     ap (λ (v : Went). (v, J .1)) g ∙ ap (λ (l : List (List Float)). (y, l)) (sym (h .1))
 
-module _ (m : Manifold) (n : ℕ) (a b : Pose) (e : Edge) (w : List Float) {x : Residual} (res : x ≡ residualOf a b e) where
-  abbrev Lent : EdgeEndpoint → ℕ → List (List Float) → Type 0
-  Lent end code j = (code ≡ codeOf (jacobianOf m a b e end .0)) × (j ≡ jacobianOf m a b e end .1)
+-- ---- an edge with one free end, by its parts
+module _ (m : Manifold) (n : ℕ) (probe : ℕ → Bool → Converted) (x : Linked) (end : EdgeEndpoint) (i : ℕ) (w : List Float) where
+  pub one-lost : {why : Failure} → x ≡ linked.Bad why → (Bad why, w) ≡ oneIn (dofOf m) n probe x end i w
+  unfolding oneIn withLink
+  one-lost f = rw f
 
-  -- ---- an edge with one free end
-  module _ (end : EdgeEndpoint) (i : ℕ) where
-    pub one-lost : {why : Failure} → x ≡ Failed why → (Bad why, w) ≡ oneOf lowerTriangle m n a b e end i w
-    unfolding oneOf withSix
-    one-lost f = rw (← res, f)
+  module _ {l : Link} {d : Twist} (h : x ≡ linked.By l d) {code : ℕ} {j : List (List Float)} {y : Went}
+      (f : (code ≡ codeOf (jacobianIn (dofOf m) l end probe .0)) × (j ≡ jacobianIn (dofOf m) l end probe .1)) (g : y ≡ wentOf code) where
+    pub one-no-jacobian : {why : Failure} → y ≡ Bad why → (Bad why, w) ≡ oneIn (dofOf m) n probe x end i w
+    unfolding oneIn withLink withJacobian
+    one-no-jacobian e = rw (h, said f g e)
 
-    module _ {d : Twist} (six : x ≡ Six d) {code : ℕ} {j : List (List Float)} {y : Went} (h : Lent end code j) (g : y ≡ wentOf code) where
-      pub one-no-jacobian : {why : Failure} → y ≡ Bad why → (Bad why, w) ≡ oneOf lowerTriangle m n a b e end i w
-      unfolding oneOf withSix withJacobian
-      one-no-jacobian f = rw (← res, six, said h g f)
+    pub one-had : {dof : ℕ} {r : List Float} {s : Went × List Float} → y ≡ Well → r ≡ sixOf d → dof ≡ dofOf m → s ≡ endOf lowerTriangle n dof i j r w
+        → s ≡ oneIn (dofOf m) n probe x end i w
+    unfolding oneIn withLink withJacobian
+    one-had e q p z = rw (h, said f g e, ← q, ← p) z
 
-      pub one-had : {dof : ℕ} {r : List Float} {s : Went × List Float} → y ≡ Well → r ≡ sixOf d → dof ≡ dofOf m → s ≡ endOf lowerTriangle n dof i j r w → s ≡ oneOf lowerTriangle m n a b e end i w
-      unfolding oneOf withSix withJacobian
-      one-had f q p z = rw (← res, six, said h g f, ← q, ← p) z
+-- ---- an edge with two
+module _ (m : Manifold) (n : ℕ) (pa pb : ℕ → Bool → Converted) (x : Linked) (i k : ℕ) (w : List Float) where
+  pub both-lost : {why : Failure} → x ≡ linked.Bad why → (Bad why, w) ≡ bothIn (dofOf m) n pa pb x i k w
+  unfolding bothIn withLink
+  both-lost f = rw f
 
-  -- ---- an edge with two
-  module _ (i k : ℕ) where
-    pub both-lost : {why : Failure} → x ≡ Failed why → (Bad why, w) ≡ bothOf lowerTriangle m n a b e i k w
-    unfolding bothOf withSix
-    both-lost f = rw (← res, f)
+  module _ {l : Link} {d : Twist} (h : x ≡ linked.By l d) {code : ℕ} {ja : List (List Float)} {y : Went}
+      (f : (code ≡ codeOf (jacobianIn (dofOf m) l A pa .0)) × (ja ≡ jacobianIn (dofOf m) l A pa .1)) (g : y ≡ wentOf code) where
+    pub both-no-a : {why : Failure} → y ≡ Bad why → (Bad why, w) ≡ bothIn (dofOf m) n pa pb x i k w
+    unfolding bothIn withLink withJacobian
+    both-no-a e = rw (h, said f g e)
 
-    module _ {d : Twist} (six : x ≡ Six d) {code : ℕ} {ja : List (List Float)} {y : Went} (h : Lent A code ja) (g : y ≡ wentOf code) where
-      pub both-no-a : {why : Failure} → y ≡ Bad why → (Bad why, w) ≡ bothOf lowerTriangle m n a b e i k w
-      unfolding bothOf withSix withJacobian
-      both-no-a f = rw (← res, six, said h g f)
+    module _ (e : y ≡ Well) {code' : ℕ} {jb : List (List Float)} {z : Went}
+        (f' : (code' ≡ codeOf (jacobianIn (dofOf m) l B pb .0)) × (jb ≡ jacobianIn (dofOf m) l B pb .1)) (g' : z ≡ wentOf code') where
+      pub both-no-b : {why : Failure} → z ≡ Bad why → (Bad why, w) ≡ bothIn (dofOf m) n pa pb x i k w
+      unfolding bothIn withLink withJacobian
+      both-no-b e' = rw (h, said f g e, said f' g' e')
 
-      module _ (f : y ≡ Well) {code' : ℕ} {jb : List (List Float)} {z : Went} (h' : Lent B code' jb) (g' : z ≡ wentOf code') where
-        pub both-no-b : {why : Failure} → z ≡ Bad why → (Bad why, w) ≡ bothOf lowerTriangle m n a b e i k w
-        unfolding bothOf withSix withJacobian
-        both-no-b f' = rw (← res, six, said h g f, said h' g' f')
-
-        pub both-had : {dof : ℕ} {r : List Float} {s : Went × List Float} → z ≡ Well → r ≡ sixOf d → dof ≡ dofOf m → s ≡ endsOf lowerTriangle n dof i k ja jb r w → s ≡ bothOf lowerTriangle m n a b e i k w
-        unfolding bothOf withSix withJacobian
-        both-had f' q p t = rw (← res, six, said h g f, said h' g' f', ← q, ← p) t
+      pub both-had : {dof : ℕ} {r : List Float} {s : Went × List Float} → z ≡ Well → r ≡ sixOf d → dof ≡ dofOf m
+          → s ≡ endsOf lowerTriangle n dof i k ja jb r w → s ≡ bothIn (dofOf m) n pa pb x i k w
+      unfolding bothIn withLink withJacobian
+      both-had e' q p t = rw (h, said f g e, said f' g' e', ← q, ← p) t
 
 -- ---- an edge by its number
 
 -- an edge that is not active adds nothing
-idle : (m : Manifold) (n : ℕ) (a b : Pose) (e : Edge) (sa sb : Slot) (w : List Float) → edgeOf lowerTriangle m n a b e sa sb w ≡ only (isBlock sa || isBlock sb) (edgeOf lowerTriangle m n a b e sa sb) w
+idle : (m : Manifold) (n : ℕ) (a b : Pose) (e : Edge) (sa sb : Slot) (w : List Float)
+    → edgeOf lowerTriangle m n a b e sa sb w ≡ only (isBlock sa || isBlock sb) (edgeOf lowerTriangle m n a b e sa sb) w
 unfolding edgeOf
 idle m n a b e Fixed Fixed w = refl
 idle m n a b e Fixed (Block k) w = refl
@@ -107,7 +115,8 @@ idle m n a b e (Block i) (Block k) w = refl
 
 module _ (m : Manifold) (n : ℕ) (poses : List Float) (ends : List ℕ) (edges : List Float) (blocks : List ℕ) (free k : ℕ) (w : List Float) where
   pub edge-added : {x y : ℕ} {sa sb : Slot} {a b : Pose} {e : Edge} {s : Went × List Float}
-      → x ≡ endA ends k → y ≡ endB ends k → sa ≡ slotIn blocks free x → sb ≡ slotIn blocks free y → a ≡ poseAt poses x → b ≡ poseAt poses y → e ≡ edgeAt edges k
+      → x ≡ endA ends k → y ≡ endB ends k → sa ≡ slotIn blocks free x → sb ≡ slotIn blocks free y → a ≡ poseAt poses x → b ≡ poseAt poses y
+      → e ≡ edgeAt edges k
       → s ≡ edgeOf lowerTriangle m n a b e sa sb w
       → s ≡ only (isActive (lentLinks ends edges blocks free) k) (addAt lowerTriangle m n (lentLinks ends edges blocks free) (poseAt poses) k) w
   unfolding addAt
@@ -116,7 +125,8 @@ module _ (m : Manifold) (n : ℕ) (poses : List Float) (ends : List ℕ) (edges 
       u ∙ idle m n _ _ _ _ _ w
 
 -- a block below the free count has room
-pub slot-fits : (m : Manifold) (blocks : List ℕ) (free x : ℕ) {n : ℕ} {s : Slot} → n ≡ dofOf m * free → s ≡ slotIn blocks free x → (b : ℕ) → s ≡ Block b → b * dofOf m + dofOf m ≤ n
+pub slot-fits : (m : Manifold) (blocks : List ℕ) (free x : ℕ) {n : ℕ} {s : Slot} → n ≡ dofOf m * free → s ≡ slotIn blocks free x → (b : ℕ) → s ≡ Block b
+    → b * dofOf m + dofOf m ≤ n
 unfolding slotIn if-then
 slot-fits m blocks free x {n} {s} size i b e = go (ltb (getD blocks x none) free) refl (sym i ∙ e)
   where
@@ -152,16 +162,19 @@ module _ (m : Manifold) (n : ℕ) (l : Links Edge) (pose : ℕ → Pose) (w : Li
   fits : not r ≡ false → ltb (length w) (need n) ≡ false
   fits h = le-ltb (length w) (need n) (has-space (need n) (length w) room h)
 
-  module _ (h : not r ≡ false) {w₀ : List Float} (clear : w₀ ≡ cleared n w) (k : ℕ) {s : List Float} (sofar : each (edgeStep m n l pose) k w₀ ≡ done s) where
-    pub bad-edge : {x : Went} {why : Failure} {t : List Float} → (x, t) ≡ edgeStep m n l pose k s → x ≡ Bad why → k < l .edges
-        → (assembled.Bad k why, t) ≡ assembledOf m n l pose w
-    unfolding assembledOf assembledEnds
-    bad-edge e f b =
-        let t = each-stop (edgeStep m n l pose) w₀ k (l .edges) sofar (answered e f) b in
-        left (assembled.Short, w) (fits h) (sym (ap assembledFrom (rw clear at t)))
+  pub assembled-by : not r ≡ false → {w₀ : List Float} → w₀ ≡ cleared n w → {z : Assembled × List Float}
+      → z ≡ assembledFrom (each (edgeStep m n l pose) (l .edges) w₀)
+      → z ≡ assembledOf m n l pose w
+  unfolding assembledOf assembledEnds
+  assembled-by h clear q = left (assembled.Short, w) (fits h) (q ∙ ap (λ (w₀ : List Float). assembledFrom (each (edgeStep m n l pose) (l .edges) w₀)) clear)
 
-    pub all-edges : k ≡ l .edges → (assembled.Done, s) ≡ assembledOf m n l pose w
-    unfolding assembledOf assembledEnds
-    all-edges q =
-        let t = each-end (edgeStep m n l pose) w₀ k (l .edges) sofar q in
-        left (assembled.Short, w) (fits h) (sym (ap assembledFrom (rw clear at t)))
+-- the walk over the edges
+module _ (f : ℕ → List Float → Went × List Float) (w₀ : List Float) (k n : ℕ) {s : List Float} (sofar : each f k w₀ ≡ done s) where
+  pub bad-edge : {x : Went} {why : Failure} {t : List Float} → (x, t) ≡ f k s → x ≡ Bad why → k < n → (assembled.Bad k why, t) ≡ assembledFrom (each f n w₀)
+  bad-edge e h b = sym (ap assembledFrom (each-stop f w₀ k n sofar (answered e h) b))
+
+  pub all-edges : k ≡ n → (assembled.Done, s) ≡ assembledFrom (each f n w₀)
+  all-edges q = sym (ap assembledFrom (each-end f w₀ k n sofar q))
+
+pub room-kept : (n : ℕ) (w : List Float) {w₀ : List Float} → w₀ ≡ cleared n w → need n ≤ length w → need n ≤ length w₀
+room-kept n w e h = rw (e, cleared-length n w h) h

@@ -1,6 +1,9 @@
 pub mod Laws
 pub mod Going
+pub mod SideBySide
+pub mod Parting
 pub mod Edges
+pub mod Knowing
 pub mod Walked
 pub mod LeftBehind
 pub mod AllFinite

@@ -28,8 +28,8 @@ use Rattle.residual.specs.declared.Residual.{Residual}
 use Rattle.residual.specs.declared.Residual.the-variants.{Six, Failed}
 use Rattle.assembly.specs.Jacobians.{withSix}
 use Rattle.assembly.specs.Assembly.{dotWith, dotOf, addTo, gradientOf, lent, withJacobian, cleared, lowerTriangle, entryOf, rowOf, blockOf, endOf, crossOf, endsOf, oneOf, bothOf, edgeOf, addAt, endsBy, assembledEnds}
-use Rattle.assembly.specs.declared.EdgeEndpoint.{EdgeEndpoint}
-use Rattle.assembly.specs.declared.EdgeEndpoint.the-variants.{A, B}
+use Rattle.residual.specs.declared.EdgeEndpoint.{EdgeEndpoint}
+use Rattle.residual.specs.declared.EdgeEndpoint.the-variants.{A, B}
 use Rattle.numbers.proofs.Invariants.{Together, Abreast, each-abreast, each-together, then-together, only-together, Good, Over, Twin, Lost, beside, alone, each-over, each-good}
 use Rattle.assembly.proofs.Edges.{slot-fits}
 

@@ -20,8 +20,8 @@ use Rattle.graph.specs.declared.Slot.the-variants.{Block, Fixed}
 use Rattle.residual.specs.Residuals.{residualOf, sixOf}
 use Rattle.solve.specs.Work.{need}
 use Rattle.assembly.specs.Jacobians.{cell, withSix, jacobianOf}
-use Rattle.assembly.specs.declared.EdgeEndpoint.{EdgeEndpoint}
-use Rattle.assembly.specs.declared.EdgeEndpoint.the-variants.{A, B}
+use Rattle.residual.specs.declared.EdgeEndpoint.{EdgeEndpoint}
+use Rattle.residual.specs.declared.EdgeEndpoint.the-variants.{A, B}
 use Rattle.assembly.specs.declared.Assembled.{Assembled}
 use Rattle.assembly.specs.declared.Assembled.the-variants as assembled
 

@@ -5,7 +5,7 @@ use lib.Dec.{eqb}
 use mathlib.Core.List.{List, []}
 use lib.ListN.{getD, set, replicate}
 use lib.Ieee.{Float, nan, neg}
-use Rattle.numbers.specs.Notation.{_⊟_, _⊠_, _⧄_, num, ratio32, if-then}
+use Rattle.numbers.specs.Notation.{_⊟_, _⊠_, _⧄_, num, if-then}
 use Rattle.numbers.specs.Walks.{each, well}
 use Rattle.numbers.specs.declared.Failure.{Failure}
 use Rattle.numbers.specs.declared.Failure.the-variants.{Numerical}
@@ -22,8 +22,9 @@ use Rattle.residual.specs.Retraction.{retractOf}
 use Rattle.residual.specs.Residuals.{residualOf, sixIfFinite}
 use Rattle.residual.specs.declared.Residual.{Residual}
 use Rattle.residual.specs.declared.Residual.the-variants.{Six, Failed}
-use Rattle.assembly.specs.declared.EdgeEndpoint.{EdgeEndpoint}
-use Rattle.assembly.specs.declared.EdgeEndpoint.the-variants.{A, B}
+use Rattle.probes.specs.Probes.{eps, nudge}
+use Rattle.residual.specs.declared.EdgeEndpoint.{EdgeEndpoint}
+use Rattle.residual.specs.declared.EdgeEndpoint.the-variants.{A, B}
 
 -- the number in row k and column i, and that number replaced
 abbrev pub cell : List (List Float) → ℕ → ℕ → Float
@@ -31,14 +32,6 @@ cell j k i = getD (getD j k []) i nan
 
 abbrev pub put : List (List Float) → ℕ → ℕ → Float → List (List Float)
 put j k i v = set j k (set (getD j k []) i v)
-
--- NUM_JACOBIAN_EPS of the Rust
-abbrev pub eps : Float
-eps = ratio32 1 1000
-
--- a step of h along axis c
-abbrev pub nudge : ℕ → Float → List Float
-nudge c h = set (replicate 6 (num 0)) c h
 
 -- the residual with one end moved by δ
 unfoldable pub movedResidual : Manifold → Pose → Pose → Edge → EdgeEndpoint → List Float → Residual

@@ -1,2 +1,4 @@
 pub mod Jacobians
 pub mod Assembly
+pub mod FromParts
+pub mod Known

@@ -1,36 +1,47 @@
 // Assembly: the Jacobians of an edge, and what it adds to the gradient and to the lower triangle of the Hessian (build_normal_system_with_mapping).
 // The system of n unknowns stands in solve's layout: H(i,j), j ≤ i, at j n + i; the gradient at n n + n + i.
 ghost use mathlib.Core.Path.{_≡_};
-ghost use Prim.Native.Nat.{ℕ, _+_, _*_, _^_, _<_, _≤_};
+ghost use Prim.Native.Nat.{ℕ, _+_, _*_, _/_, _^_, _<_, _≤_};
 ghost use mathlib.Core.List.{_++_};
 ghost use lib.ListN.{length, drop, replicate};
 ghost use Rattle.numbers.specs.Notation.{num};
-ghost use Rattle.numbers.specs.Walks.{only};
+ghost use Rattle.numbers.specs.Walks.{each, only};
 ghost use Rattle.solve.specs.Work.{need};
 ghost use Rattle.graph.specs.Graph.{isActive};
-ghost use Rattle.graph.specs.Lent.{dofOf, poseAt, lentLinks};
+ghost use Rattle.graph.specs.Lent.{dofOf, poseAt, edgeAt, slotIn, lentLinks};
 ghost use Rattle.graph.specs.declared.Slot.the-variants.{Block};
-ghost use Rattle.assembly.specs.Jacobians.{movedResidual, slope, slopeVec, derivative, columnOf, putSix, codeOf, wentOf, jacobianOf};
-ghost use Rattle.assembly.specs.Assembly.{dotOf, dotWith, addTo, gradientOf, lowerTriangle, entryOf, rowOf, blockOf, endOf, crossOf, endsOf, oneOf, bothOf, edgeOf, addAt, assembledOf};
+ghost use Rattle.assembly.specs.Jacobians.{slope, slopeVec, derivative, putSix, codeOf, wentOf};
+ghost use Rattle.assembly.specs.Assembly.{dotOf, dotWith, addTo, gradientOf, lowerTriangle, entryOf, rowOf, blockOf, endOf, crossOf, endsOf, edgeOf, addAt, assembledFrom, assembledOf};
+ghost use mathlib.Core.Bool.{Bool, true, false};
+ghost use Rattle.assembly.specs.FromParts.{hingesAlong, columnBy, columnIn, SharesTurn, jacobianIn, oneIn, bothIn};
+ghost use Rattle.assembly.specs.Known.{stowedProbes, Axis, Probed, Posed, Ready, FreePose, Shaped};
+ghost use Rattle.rotations.specs.Rotation.{wide};
+ghost use Rattle.pose_conversion.specs.Conversions.{checkedTransform};
+ghost use Rattle.pose_conversion.specs.declared.Converted.the-variants.{Into};
+ghost use Rattle.residual.specs.EdgeParts.{linkedOf, hingeOf};
+ghost use Rattle.residual.specs.Stowed.{stowedFrom, knownPoses, Based};
+ghost use Rattle.probes.specs.Probes.{probesOf};
+ghost use Rattle.probes.specs.Stances.{probingOf, probeBy};
 use graph::Edge;
 use graph::Manifold;
 use graph::Slot;
 use numbers::Failure;
 use numbers::Went;
-use pose_conversion::Restored;
+use pose_conversion::Converted;
+use probes::Probing;
+use probes::Stance;
+use residual::BothResiduals;
+use residual::EdgeEndpoint;
+use residual::Hinge;
+use residual::Hinges;
+use residual::Link;
+use residual::Linked;
 use residual::Residual;
-use rotations::Pose;
+use rotations::Quat;
+use rotations::QuatF32;
+use rotations::Transform;
 use rotations::Twist;
 use rotations::Vec3F32;
-
-// A pose is moved so far to each side, in its own units along each axis.
-const NUM_JACOBIAN_EPS: f32 = 0.001;
-
-// The end of an edge that a Jacobian is of.
-pub enum EdgeEndpoint {
-    A,
-    B,
-}
 
 // Assembled; or the first bad edge among all edges, and why; or the work is too short.
 pub enum Assembled {
@@ -39,35 +50,40 @@ pub enum Assembled {
     Short,
 }
 
+// What is solved for: n is DOF × free.
+struct Shape {
+    manifold: Manifold,
+    free: u32,
+    n: usize,
+}
+
+// The poses at the ends of an edge, and their slots.
+struct Ends {
+    a: usize,
+    b: usize,
+    sa: Slot,
+    sb: Slot,
+}
+
 // ---- Jacobians
 
-// The residual with one end moved by delta.
-fn moved_residual(
-    m: Manifold,
-    a: Pose,
-    b: Pose,
-    edge: Edge,
-    end: EdgeEndpoint,
-    delta: [f32; 6],
-) -> Residual
-    ensures { λ r. ⌜ r ≡ movedResidual m a b edge end delta ⌝ }
+// What the quaternions p and q of an end's probes along axis c give; all shifts have one, which gives `shift`.
+fn hinges_along(l: Link, end: EdgeEndpoint, shift: Hinge, c: usize, p: Quat, q: Quat) -> Hinges
+    ensures { λ r. ⌜ r ≡ hingesAlong l end shift c p q ⌝ }
 {
-    match end {
-        EdgeEndpoint::A => match residual::retract(m, a, delta) {
-            Restored::Into(p) => residual::weighted_relative_residual(p, b, edge),
-            Restored::Bad(why) => Residual::Failed(why),
-        },
-        EdgeEndpoint::B => match residual::retract(m, b, delta) {
-            Restored::Into(p) => residual::weighted_relative_residual(a, p, edge),
-            Restored::Bad(why) => Residual::Failed(why),
-        },
+    if c < 3 {
+        return Hinges {
+            ahead: shift,
+            behind: shift,
+        };
     }
+    residual::hinges_of(l, end, p, q)
 }
 
 fn slope_of(p: f32, q: f32) -> f32
     ensures { λ r. ⌜ r ≡ slope p q ⌝ }
 {
-    (p - q) / (2.0 * NUM_JACOBIAN_EPS)
+    (p - q) / (2.0 * probes::NUM_JACOBIAN_EPS)
 }
 
 fn slope_vec(p: Vec3F32, q: Vec3F32) -> Vec3F32
@@ -95,24 +111,84 @@ fn derivative_of(p: Twist, q: Twist) -> Residual
     }
 }
 
-// The six derivatives along axis c: (r(+0.001) − r(−0.001)) / (2 × 0.001), all f32.
-fn column(m: Manifold, a: Pose, b: Pose, edge: Edge, end: EdgeEndpoint, c: usize) -> Residual
-    requires { ⌜ c < 6 ⌝ }
-    ensures { λ r. ⌜ r ≡ columnOf m a b edge end c ⌝ }
+// The derivatives from both residuals; the probes of the two cells and the residuals are asked in turn.
+fn column_by(ahead: Edge, behind: Edge, both: BothResiduals) -> Residual
+    ensures { λ r. ⌜ r ≡ columnBy (stowedFrom ahead) (both .ahead) (stowedFrom behind) (both .behind) ⌝ }
 {
-    let mut plus = [0.0f32; 6];
-    plus[c] = NUM_JACOBIAN_EPS;
-    let mut minus = [0.0f32; 6];
-    minus[c] = -NUM_JACOBIAN_EPS;
-    let p = match moved_residual(m, a, b, edge, end, plus) {
+    if let Converted::Bad(why) = residual::stowed_from(ahead) {
+        return Residual::Failed(why);
+    }
+    let first = both.ahead;
+    let p = match first {
         Residual::Six(p) => p,
         Residual::Failed(why) => return Residual::Failed(why),
     };
-    let q = match moved_residual(m, a, b, edge, end, minus) {
+    if let Converted::Bad(why) = residual::stowed_from(behind) {
+        return Residual::Failed(why);
+    }
+    let second = both.behind;
+    let q = match second {
         Residual::Six(q) => q,
         Residual::Failed(why) => return Residual::Failed(why),
     };
     derivative_of(p, q)
+}
+
+// The six derivatives along axis c, from the cells of an end's probes: (r(+0.001) − r(−0.001)) / (2 × 0.001), all f32. Both residuals are worked out side
+// by side, of a cell that holds nothing too, and asked after that.
+fn column(l: Link, end: EdgeEndpoint, shift: Hinge, c: usize, ahead: Edge, behind: Edge) -> Residual
+    requires { ⌜ (c < 3 → (t : Transform) → (stowedFrom ahead ≡ Into t → hingeOf l end (wide t .q) ≡ shift) × (stowedFrom behind ≡ Into t → hingeOf l end (wide t .q) ≡ shift)) ⌝ }
+    ensures { λ r. ⌜ r ≡ columnIn l end (stowedFrom ahead) (stowedFrom behind) ⌝ }
+{
+    let a = rotations::widened(ahead.measured);
+    let b = rotations::widened(behind.measured);
+    let hinges = hinges_along(l, end, shift, c, a.q, b.q);
+    column_by(
+        ahead,
+        behind,
+        residual::residuals_at(l, end, hinges, a.t, b.t),
+    )
+}
+
+// Cell e, all of which is lent.
+fn stowed_at(known: &[f32], e: usize) -> Edge
+    requires { ⌜ e * 8 + 8 ≤ length (now known) ⌝ }
+    ensures { λ r. ⌜ r ≡ edgeAt (now (known .entry)) e ⌝ }
+{
+    let at = e * 8;
+    Edge {
+        measured: Transform {
+            q: QuatF32 {
+                x: known[at],
+                y: known[at + 1],
+                z: known[at + 2],
+                w: known[at + 3],
+            },
+            t: Vec3F32 {
+                x: known[at + 4],
+                y: known[at + 5],
+                z: known[at + 6],
+            },
+        },
+        weight: known[at + 7],
+    }
+}
+
+// The same derivatives, by what is known of pose x.
+fn column_at(
+    known: &[f32],
+    x: usize,
+    l: Link,
+    end: EdgeEndpoint,
+    shift: Hinge,
+    c: usize,
+) -> Residual
+    requires { ⌜ (x < 256) × (c < 6) × (length (now known) ≡ 26624) × (c < 3 → (ahead : Bool) (t : Transform) → stowedProbes (now known) x c ahead ≡ Into t → hingeOf l end (wide t .q) ≡ shift) ⌝ }
+    ensures { λ r. ⌜ r ≡ columnIn l end (stowedProbes (now (known .entry)) x c true) (stowedProbes (now (known .entry)) x c false) ⌝ }
+{
+    let ahead = stowed_at(known, 256 + (x * 12 + c));
+    let behind = stowed_at(known, 256 + (x * 12 + (6 + c)));
+    column(l, end, shift, c, ahead, behind)
 }
 
 // A column filled in, row by row.
@@ -150,21 +226,23 @@ fn went_of(code: u32) -> Went
     Went::Bad(Failure::Numerical)
 }
 
-// Six rows of DOF numbers, filled column by column; `code` says whether all could be had.
-fn edge_endpoint_jacobian(
+// Six rows of DOF numbers, filled column by column; `code` says whether all could be had. `shift` is what the first probe's quaternion gives.
+fn columns(
+    known: &[f32],
+    x: usize,
     m: Manifold,
-    a: Pose,
-    b: Pose,
-    edge: Edge,
+    l: Link,
     end: EdgeEndpoint,
+    shift: Hinge,
     code: &mut u32,
 ) -> [[f32; 6]; 6]
-    ensures { λ r. ⌜ (now (code .exit) ≡ codeOf (jacobianOf m a b edge end .0)) × (r ≡ jacobianOf m a b edge end .1) ⌝ }
+    requires { ⌜ (x < 256) × (length (now known) ≡ 26624) × ((c : ℕ) → c < 3 → (ahead : Bool) (t : Transform) → stowedProbes (now known) x c ahead ≡ Into t → hingeOf l end (wide t .q) ≡ shift) ⌝ }
+    ensures { λ r. ⌜ (now (code .exit) ≡ codeOf (jacobianIn (dofOf m) l end (stowedProbes (now (known .entry)) x) .0)) × (r ≡ jacobianIn (dofOf m) l end (stowedProbes (now (known .entry)) x) .1) ⌝ }
 {
     let mut j = [[0.0f32; 6]; 6];
     let dof = graph::dof(m);
     for c in 0..dof {
-        match column(m, a, b, edge, end, c) {
+        match column_at(known, x, l, end, shift, c) {
             Residual::Six(d) => put_six(&mut j, c, d),
             Residual::Failed(why) => {
                 *code = code_of(Went::Bad(why));
@@ -174,6 +252,96 @@ fn edge_endpoint_jacobian(
     }
     *code = code_of(Went::Well);
     j
+}
+
+// The Jacobian of an edge for one of its ends. The first probe is asked first, as by the first column; its quaternion is that of all shifts.
+fn edge_endpoint_jacobian(
+    known: &[f32],
+    x: usize,
+    m: Manifold,
+    l: Link,
+    end: EdgeEndpoint,
+    code: &mut u32,
+) -> [[f32; 6]; 6]
+    requires { ⌜ (x < 256) × (length (now known) ≡ 26624) × SharesTurn (stowedProbes (now known) x) ⌝ }
+    ensures { λ r. ⌜ (now (code .exit) ≡ codeOf (jacobianIn (dofOf m) l end (stowedProbes (now (known .entry)) x) .0)) × (r ≡ jacobianIn (dofOf m) l end (stowedProbes (now (known .entry)) x) .1) ⌝ }
+{
+    let first = match residual::stowed(known, 256 + x * 12) {
+        Converted::Into(t) => rotations::widened(t),
+        Converted::Bad(why) => {
+            *code = code_of(Went::Bad(why));
+            return [[0.0f32; 6]; 6];
+        }
+    };
+    let shift = residual::hinge_of(l, end, first.q);
+    columns(known, x, m, l, end, shift, code)
+}
+
+// ---- what is known of each pose: its transform, and of a free pose its probes
+
+fn fill_axis(known: &mut [f32], stance: Stance, x: usize, c: usize)
+    requires { ⌜ (x < 256) × (c < 6) × (length (now known) ≡ 26624) ⌝ }
+    ensures { λ _. ⌜ Axis (probeBy stance) x c (now (known .entry)) (now (known .exit)) ⌝ }
+{
+    let probes = probes::probes_at(stance, c);
+    let ahead = probes.ahead;
+    let behind = probes.behind;
+    residual::stow(known, 256 + (x * 12 + c), ahead);
+    residual::stow(known, 256 + (x * 12 + (6 + c)), behind);
+}
+
+fn fill_probes(known: &mut [f32], stance: Stance, dof: usize, x: usize)
+    requires { ⌜ (x < 256) × (dof ≤ 6) × (length (now known) ≡ 26624) ⌝ }
+    ensures { λ _. ⌜ Probed (probeBy stance) x dof (now (known .entry)) (now (known .exit)) ⌝ }
+{
+    for c in 0..dof {
+        fill_axis(known, stance, x, c);
+    }
+}
+
+fn fill_stance(known: &mut [f32], m: Manifold, probing: Probing, poses: &[f64], x: usize)
+    requires { ⌜ (x < 256) × (probing ≡ probingOf m) × (length (now known) ≡ 26624) × Based (now poses) (now known) (knownPoses (length (now poses))) ⌝ }
+    ensures { λ _. ⌜ Probed (probesOf m (poseAt (now (poses .entry)) x)) x (dofOf m) (now (known .entry)) (now (known .exit)) ⌝ }
+{
+    let base = residual::base_at(known, residual::known_poses(poses), poses, x);
+    let stance = probes::stance_of(probing, graph::pose_at(poses, x), base);
+    fill_probes(known, stance, graph::dof(m), x);
+}
+
+// The probes of a pose that is not free are not asked for.
+fn fill_pose(known: &mut [f32], m: Manifold, probing: Probing, poses: &[f64], slot: Slot, x: usize)
+    requires { ⌜ (x < 256) × (probing ≡ probingOf m) × (length (now known) ≡ 26624) × Based (now poses) (now known) (knownPoses (length (now poses))) ⌝ }
+    ensures { λ _. ⌜ Posed slot (probesOf m (poseAt (now (poses .entry)) x)) x (dofOf m) (now (known .entry)) (now (known .exit)) ⌝ }
+{
+    match slot {
+        Slot::Fixed => {}
+        Slot::Block(_) => fill_stance(known, m, probing, poses, x),
+    }
+}
+
+fn fill_free(
+    known: &mut [f32],
+    m: Manifold,
+    probing: Probing,
+    poses: &[f64],
+    blocks: &[u32; 256],
+    free: u32,
+)
+    requires { ⌜ (probing ≡ probingOf m) × Ready m (now poses) (slotIn (now blocks) free) (now known) 0 ⌝ }
+    ensures { λ _. ⌜ Ready m (now (poses .entry)) (slotIn (now (blocks .entry)) free) (now (known .exit)) 256 ⌝ }
+{
+    for x in 0..256usize {
+        let slot = graph::slot_at(blocks, free, x);
+        fill_pose(known, m, probing, poses, slot, x);
+    }
+}
+
+fn fill(known: &mut [f32], m: Manifold, poses: &[f64], blocks: &[u32; 256], free: u32)
+    requires { ⌜ length (now known) ≡ 26624 ⌝ }
+    ensures { λ _. ⌜ Ready m (now (poses .entry)) (slotIn (now (blocks .entry)) free) (now (known .exit)) 256 ⌝ }
+{
+    residual::fill_bases(known, poses);
+    fill_free(known, m, probes::probing_of(m), poses, blocks, free);
 }
 
 // ---- what is added
@@ -346,31 +514,40 @@ fn add_ends(
 
 // ---- edges
 
-// An edge with one free end.
+// Edge k between poses a and b, with its residual.
+fn link(known: &[f32], poses: &[f64], edges: &[f32], a: usize, b: usize, k: usize) -> Linked
+    requires { ⌜ Based (now poses) (now known) (knownPoses (length (now poses))) ⌝ }
+    ensures { λ r. ⌜ r ≡ linkedOf (checkedTransform (poseAt (now (poses .entry)) a)) (checkedTransform (poseAt (now (poses .entry)) b)) (edgeAt (now (edges .entry)) k) ⌝ }
+{
+    residual::linked_at(known, residual::known_poses(poses), poses, edges, a, b, k)
+}
+
+// An edge whose one free end is pose x.
 fn add_one(
     w: &mut [f32],
     n: usize,
     m: Manifold,
-    a: Pose,
-    b: Pose,
-    edge: Edge,
+    known: &[f32],
+    x: usize,
+    linked: Linked,
     end: EdgeEndpoint,
     block: usize,
 ) -> Went
-    requires { ⌜ (block * dofOf m + dofOf m ≤ n) × (need n ≤ length (now w)) ⌝ }
-    ensures { λ went. ⌜ (went, now (w .exit)) ≡ oneOf lowerTriangle m n a b edge end block (now (w .entry)) ⌝ }
+    requires { ⌜ (block * dofOf m + dofOf m ≤ n) × (x < 256) × (length (now known) ≡ 26624) × SharesTurn (stowedProbes (now known) x) × (need n ≤ length (now w)) ⌝ }
+    ensures { λ went. ⌜ (went, now (w .exit)) ≡ oneIn (dofOf m) n (stowedProbes (now (known .entry)) x) linked end block (now (w .entry)) ⌝ }
 {
-    let d = match residual::weighted_relative_residual(a, b, edge) {
-        Residual::Six(d) => d,
-        Residual::Failed(why) => return Went::Bad(why),
-    };
-    let r = residual::six_of(d);
-    let mut code: u32 = 0;
-    let j = edge_endpoint_jacobian(m, a, b, edge, end, &mut code);
-    if let Went::Bad(why) = went_of(code) {
-        return Went::Bad(why);
+    match linked {
+        Linked::Bad(why) => Went::Bad(why),
+        Linked::By { link, six } => {
+            let r = residual::six_of(six);
+            let mut code: u32 = 0;
+            let j = edge_endpoint_jacobian(known, x, m, link, end, &mut code);
+            if let Went::Bad(why) = went_of(code) {
+                return Went::Bad(why);
+            }
+            add_end(w, n, graph::dof(m), block, &j, &r)
+        }
     }
-    add_end(w, n, graph::dof(m), block, &j, &r)
 }
 
 // An edge with two free ends.
@@ -378,81 +555,91 @@ fn add_both(
     w: &mut [f32],
     n: usize,
     m: Manifold,
-    a: Pose,
-    b: Pose,
-    edge: Edge,
+    known: &[f32],
+    a: usize,
+    b: usize,
+    linked: Linked,
     i: usize,
     k: usize,
 ) -> Went
-    requires { ⌜ (i * dofOf m + dofOf m ≤ n) × (k * dofOf m + dofOf m ≤ n) × (need n ≤ length (now w)) ⌝ }
-    ensures { λ went. ⌜ (went, now (w .exit)) ≡ bothOf lowerTriangle m n a b edge i k (now (w .entry)) ⌝ }
+    requires { ⌜ (i * dofOf m + dofOf m ≤ n) × (k * dofOf m + dofOf m ≤ n) × (a < 256) × (b < 256) × (length (now known) ≡ 26624) × SharesTurn (stowedProbes (now known) a) × SharesTurn (stowedProbes (now known) b) × (need n ≤ length (now w)) ⌝ }
+    ensures { λ went. ⌜ (went, now (w .exit)) ≡ bothIn (dofOf m) n (stowedProbes (now (known .entry)) a) (stowedProbes (now (known .entry)) b) linked i k (now (w .entry)) ⌝ }
 {
-    let d = match residual::weighted_relative_residual(a, b, edge) {
-        Residual::Six(d) => d,
-        Residual::Failed(why) => return Went::Bad(why),
-    };
-    let r = residual::six_of(d);
-    let mut code: u32 = 0;
-    let ja = edge_endpoint_jacobian(m, a, b, edge, EdgeEndpoint::A, &mut code);
-    if let Went::Bad(why) = went_of(code) {
-        return Went::Bad(why);
+    match linked {
+        Linked::Bad(why) => Went::Bad(why),
+        Linked::By { link, six } => {
+            let r = residual::six_of(six);
+            let mut code: u32 = 0;
+            let ja = edge_endpoint_jacobian(known, a, m, link, EdgeEndpoint::A, &mut code);
+            if let Went::Bad(why) = went_of(code) {
+                return Went::Bad(why);
+            }
+            let jb = edge_endpoint_jacobian(known, b, m, link, EdgeEndpoint::B, &mut code);
+            if let Went::Bad(why) = went_of(code) {
+                return Went::Bad(why);
+            }
+            add_ends(w, n, graph::dof(m), i, k, &ja, &jb, &r)
+        }
     }
-    let jb = edge_endpoint_jacobian(m, a, b, edge, EdgeEndpoint::B, &mut code);
-    if let Went::Bad(why) = went_of(code) {
-        return Went::Bad(why);
-    }
-    add_ends(w, n, graph::dof(m), i, k, &ja, &jb, &r)
 }
 
-// What an edge adds, by which of its ends are free.
+// What edge k adds, by which of its ends are free.
 fn add_edge(
     w: &mut [f32],
     n: usize,
     m: Manifold,
-    a: Pose,
-    b: Pose,
-    edge: Edge,
-    sa: Slot,
-    sb: Slot,
+    known: &[f32],
+    poses: &[f64],
+    edges: &[f32],
+    ends: Ends,
+    k: usize,
 ) -> Went
-    requires { ⌜ ((i : ℕ) → sa ≡ Block i → i * dofOf m + dofOf m ≤ n) × ((i : ℕ) → sb ≡ Block i → i * dofOf m + dofOf m ≤ n) × (need n ≤ length (now w)) ⌝ }
-    ensures { λ went. ⌜ (went, now (w .exit)) ≡ edgeOf lowerTriangle m n a b edge sa sb (now (w .entry)) ⌝ }
+    requires { ⌜ ((i : ℕ) → ends .sa ≡ Block i → FreePose m n (now poses) (now known) (ends .a) i) × ((i : ℕ) → ends .sb ≡ Block i → FreePose m n (now poses) (now known) (ends .b) i) × Based (now poses) (now known) (knownPoses (length (now poses))) × (need n ≤ length (now w)) ⌝ }
+    ensures { λ went. ⌜ (went, now (w .exit)) ≡ edgeOf lowerTriangle m n (poseAt (now (poses .entry)) (ends .a)) (poseAt (now (poses .entry)) (ends .b)) (edgeAt (now (edges .entry)) k) (ends .sa) (ends .sb) (now (w .entry)) ⌝ }
 {
+    let a = ends.a;
+    let b = ends.b;
+    let sa = ends.sa;
+    let sb = ends.sb;
     match sa {
         Slot::Fixed => match sb {
             Slot::Fixed => Went::Well,
-            Slot::Block(k) => add_one(w, n, m, a, b, edge, EdgeEndpoint::B, k),
+            Slot::Block(j) => {
+                let linked = link(known, poses, edges, a, b, k);
+                add_one(w, n, m, known, b, linked, EdgeEndpoint::B, j)
+            }
         },
-        Slot::Block(i) => match sb {
-            Slot::Fixed => add_one(w, n, m, a, b, edge, EdgeEndpoint::A, i),
-            Slot::Block(k) => add_both(w, n, m, a, b, edge, i, k),
-        },
+        Slot::Block(i) => {
+            let linked = link(known, poses, edges, a, b, k);
+            match sb {
+                Slot::Fixed => add_one(w, n, m, known, a, linked, EdgeEndpoint::A, i),
+                Slot::Block(j) => add_both(w, n, m, known, a, b, linked, i, j),
+            }
+        }
     }
 }
 
 // What edge k adds; nothing if it is not active.
 fn add_edge_at(
     w: &mut [f32],
-    m: Manifold,
+    shape: Shape,
+    known: &[f32],
     poses: &[f64],
     ends: &[u32],
     edges: &[f32],
     blocks: &[u32; 256],
-    free: u32,
-    n: usize,
     k: usize,
 ) -> Went
-    requires { ⌜ (n ≡ dofOf m * free) × (need n ≤ length (now w)) × (k < 2 ^ 62) ⌝ }
-    ensures { λ went. ⌜ (went, now (w .exit)) ≡ only (isActive (lentLinks (now (ends .entry)) (now (edges .entry)) (now (blocks .entry)) free) k) (addAt lowerTriangle m n (lentLinks (now (ends .entry)) (now (edges .entry)) (now (blocks .entry)) free) (poseAt (now (poses .entry))) k) (now (w .entry)) ⌝ }
+    requires { ⌜ Shaped shape (now poses) (now blocks) (now known) × (need (shape .n) ≤ length (now w)) × (k < 2 ^ 62) ⌝ }
+    ensures { λ went. ⌜ (went, now (w .exit)) ≡ only (isActive (lentLinks (now (ends .entry)) (now (edges .entry)) (now (blocks .entry)) (shape .free)) k) (addAt lowerTriangle (shape .manifold) (shape .n) (lentLinks (now (ends .entry)) (now (edges .entry)) (now (blocks .entry)) (shape .free)) (poseAt (now (poses .entry))) k) (now (w .entry)) ⌝ }
 {
-    let ia = numbers::index_at(ends, k * 2);
-    let ib = numbers::index_at(ends, k * 2 + 1);
-    let sa = graph::slot_at(blocks, free, ia);
-    let sb = graph::slot_at(blocks, free, ib);
-    let a = graph::pose_at(poses, ia);
-    let b = graph::pose_at(poses, ib);
-    let edge = graph::edge_at(edges, k);
-    add_edge(w, n, m, a, b, edge, sa, sb)
+    let m = shape.manifold;
+    let a = numbers::index_at(ends, k * 2);
+    let b = numbers::index_at(ends, k * 2 + 1);
+    let sa = graph::slot_at(blocks, shape.free, a);
+    let sb = graph::slot_at(blocks, shape.free, b);
+    let both = Ends { a, b, sa, sb };
+    add_edge(w, shape.n, m, known, poses, edges, both, k)
 }
 
 // The first `count` numbers become +0.
@@ -463,6 +650,53 @@ fn clear(w: &mut [f32], count: usize)
     for i in 0..count {
         w[i] = 0.0;
     }
+}
+
+// All edges in order, up to the first bad one.
+fn add_edges(
+    w: &mut [f32],
+    shape: Shape,
+    known: &[f32],
+    poses: &[f64],
+    ends: &[u32],
+    edges: &[f32],
+    blocks: &[u32; 256],
+) -> Assembled
+    requires { ⌜ Shaped shape (now poses) (now blocks) (now known) × (need (shape .n) ≤ length (now w)) ⌝ }
+    ensures { λ r. ⌜ (r, now (w .exit)) ≡ assembledFrom (each (λ k. only (isActive (lentLinks (now (ends .entry)) (now (edges .entry)) (now (blocks .entry)) (shape .free)) k) (addAt lowerTriangle (shape .manifold) (shape .n) (lentLinks (now (ends .entry)) (now (edges .entry)) (now (blocks .entry)) (shape .free)) (poseAt (now (poses .entry))) k)) (length (now (ends .entry)) / 2) (now (w .entry))) ⌝ }
+{
+    for k in 0..ends.len() / 2 {
+        if let Went::Bad(why) = add_edge_at(w, shape, known, poses, ends, edges, blocks, k) {
+            return Assembled::Bad { edge: k, why };
+        }
+    }
+    Assembled::Done
+}
+
+// The same, with what they ask of the poses worked out first, once.
+fn add_all(
+    w: &mut [f32],
+    shape: Shape,
+    poses: &[f64],
+    ends: &[u32],
+    edges: &[f32],
+    blocks: &[u32; 256],
+) -> Assembled
+    requires { ⌜ (shape .n ≡ dofOf (shape .manifold) * shape .free) × (shape .free ≤ 4294967295) × (length (now blocks) ≡ 256) × (need (shape .n) ≤ length (now w)) ⌝ }
+    ensures { λ r. ⌜ (r, now (w .exit)) ≡ assembledFrom (each (λ k. only (isActive (lentLinks (now (ends .entry)) (now (edges .entry)) (now (blocks .entry)) (shape .free)) k) (addAt lowerTriangle (shape .manifold) (shape .n) (lentLinks (now (ends .entry)) (now (edges .entry)) (now (blocks .entry)) (shape .free)) (poseAt (now (poses .entry))) k)) (length (now (ends .entry)) / 2) (now (w .entry))) ⌝ }
+{
+    let m = shape.manifold;
+    let mut known = [0.0f32; 26624];
+    fill(&mut known, m, poses, blocks, shape.free);
+    add_edges(w, shape, &known, poses, ends, edges, blocks)
+}
+
+// The blocks lent are 256, which the code after it relies on: an array's length is known where it is taken as a slice.
+fn count_blocks(blocks: &[u32; 256]) -> usize
+    ensures { λ _. ⌜ length (now (blocks .entry)) ≡ 256 ⌝ }
+{
+    let all = &blocks[..];
+    all.len()
 }
 
 // Gradient and lower triangle of the Hessian, from +0, in the work of dof × free unknowns; `blocks` names the block of each pose.
@@ -482,10 +716,11 @@ pub fn build_normal_system_with_mapping(
         return Assembled::Short;
     }
     clear(w, n * (n + 3));
-    for k in 0..ends.len() / 2 {
-        if let Went::Bad(why) = add_edge_at(w, m, poses, ends, edges, blocks, free, n, k) {
-            return Assembled::Bad { edge: k, why };
-        }
-    }
-    Assembled::Done
+    count_blocks(blocks);
+    let shape = Shape {
+        manifold: m,
+        free,
+        n,
+    };
+    add_all(w, shape, poses, ends, edges, blocks)
 }

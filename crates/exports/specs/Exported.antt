@@ -12,7 +12,7 @@ use Rattle.numbers.specs.Refusals.{verdict}
 use Rattle.numbers.specs.declared.Verdict.{Verdict}
 use Rattle.numbers.specs.declared.Verdict.the-variants as verdict
 use Rattle.graph.specs.Graph.{linksOf, freeCount}
-use Rattle.graph.specs.Lent.{Input, lent, unset, graphOf, dofOf, poseAt}
+use Rattle.graph.specs.Lent.{Input, lent, unset, graphOf, dofOf, poseAt, lentLinks}
 use Rattle.graph.specs.Table.{settingRows, graphChecks}
 use Rattle.graph.specs.declared.Manifold.{Manifold}
 use Rattle.graph.specs.declared.Manifold.the-variants.{Se3, Gravity}
@@ -131,6 +131,11 @@ assembling m poses ends edges fixed w =
 abbrev pub systemOut : ℕ → List Float → Ended (List Float) → ℕ × List Float
 systemOut n w (done s) = (0, s ++ drop (need n) w)
 systemOut n w (stopped k why s) = (assemblyRow why, w)
+
+-- of lent numbers that passed the checks, with the blocks of the poses
+abbrev pub builtOut : Manifold → List Float → List ℕ → List Float → List ℕ → ℕ → List Float → ℕ × List Float
+builtOut m poses ends edges blocks free w =
+    systemOut (dofOf m * free) w (assembledEnds m (dofOf m * free) (lentLinks ends edges blocks free) (poseAt poses) [])
 
 abbrev pub assembleFrom : Input → List Float → Checked → ℕ × List Float
 assembleFrom i w (checked.Turned r) = (r .number, w)

@@ -9,11 +9,10 @@ ghost use Rattle.numbers.specs.Notation.{num, if-then};
 ghost use Rattle.numbers.specs.Numbers.{narrowed, root32, root64};
 ghost use Rattle.numbers.specs.Refusals.{verdict};
 ghost use Rattle.rotations.specs.Rotation.{vec};
-ghost use Rattle.graph.specs.Lent.{lent, dofOf, poseAt, lentLinks, numbersOf};
+ghost use Rattle.graph.specs.Lent.{lent, dofOf, numbersOf};
 ghost use Rattle.graph.specs.Table.{settingRows};
 ghost use Rattle.residual.specs.Residuals.{sixOf};
 ghost use Rattle.solve.specs.Work.{need};
-ghost use Rattle.assembly.specs.Assembly.{assembledEnds};
 ghost use Rattle.decisions.specs.Run.{iterations};
 ghost use Rattle.decisions.specs.Machine.{stateOf};
 ghost use Rattle.sparse_pgo.specs.Parts.{answerOf};
@@ -21,7 +20,7 @@ ghost use Rattle.sparse_pgo.specs.Optimize.{optimized};
 ghost use Rattle.exports.specs.Layers.{at, matrixFrom, transformFrom, quatNumbers, transformNumbers, three};
 ghost use Rattle.exports.specs.Layers.{quaternionOut, productOut, inverseOut, logOut, expOut, retractOut, retractGravityOut, residualOut, solveOut};
 ghost use Rattle.exports.specs.Exported.{stopNumber, flag, place32, told, settings, lists, roomOf, exported};
-ghost use Rattle.exports.specs.Exported.{decidedAs, decideFrom, known, decided, assembling, systemOut, systemOf, assembleOut};
+ghost use Rattle.exports.specs.Exported.{decidedAs, decideFrom, known, decided, assembling, builtOut, systemOf, assembleOut};
 use assembly::Assembled;
 use decisions::End;
 use decisions::Next;
@@ -659,7 +658,7 @@ fn build_over(
     work: &mut [f32],
 ) -> u32
     requires { ⌜ (length (now work) ≡ need (dofOf m * free)) × (length (now work) ≤ length (now system)) ⌝ }
-    ensures { λ r. ⌜ (r, now (work .exit)) ≡ systemOut (dofOf m * free) (now (work .entry)) (assembledEnds m (dofOf m * free) (lentLinks (now (ends .entry)) (now (edges .entry)) (now (blocks .entry)) free) (poseAt (now (poses .entry))) []) ⌝ }
+    ensures { λ r. ⌜ (r, now (work .exit)) ≡ builtOut m (now (poses .entry)) (now (ends .entry)) (now (edges .entry)) (now (blocks .entry)) free (now (work .entry)) ⌝ }
 {
     let count = work.len();
     let made = assembly::build_normal_system_with_mapping(
@@ -681,7 +680,55 @@ fn build_over(
     }
 }
 
-// 64 free poses of six take 148608 numbers.
+// Scratch is cleared before it is used, so it is no larger than a third, two thirds or all of what 64 free poses of six take, 148608 numbers.
+fn build_small(
+    m: Manifold,
+    poses: &[f64],
+    ends: &[u32],
+    edges: &[f32],
+    blocks: &[u32; 256],
+    free: u32,
+    work: &mut [f32],
+) -> u32
+    requires { ⌜ (length (now work) ≡ need (dofOf m * free)) × (length (now work) ≤ 40000) ⌝ }
+    ensures { λ r. ⌜ (r, now (work .exit)) ≡ builtOut m (now (poses .entry)) (now (ends .entry)) (now (edges .entry)) (now (blocks .entry)) free (now (work .entry)) ⌝ }
+{
+    let mut system = [0.0f32; 40000];
+    build_over(m, poses, ends, edges, blocks, free, &mut system, work)
+}
+
+fn build_middle(
+    m: Manifold,
+    poses: &[f64],
+    ends: &[u32],
+    edges: &[f32],
+    blocks: &[u32; 256],
+    free: u32,
+    work: &mut [f32],
+) -> u32
+    requires { ⌜ (length (now work) ≡ need (dofOf m * free)) × (length (now work) ≤ 90000) ⌝ }
+    ensures { λ r. ⌜ (r, now (work .exit)) ≡ builtOut m (now (poses .entry)) (now (ends .entry)) (now (edges .entry)) (now (blocks .entry)) free (now (work .entry)) ⌝ }
+{
+    let mut system = [0.0f32; 90000];
+    build_over(m, poses, ends, edges, blocks, free, &mut system, work)
+}
+
+fn build_large(
+    m: Manifold,
+    poses: &[f64],
+    ends: &[u32],
+    edges: &[f32],
+    blocks: &[u32; 256],
+    free: u32,
+    work: &mut [f32],
+) -> u32
+    requires { ⌜ (length (now work) ≡ need (dofOf m * free)) × (length (now work) ≤ 148608) ⌝ }
+    ensures { λ r. ⌜ (r, now (work .exit)) ≡ builtOut m (now (poses .entry)) (now (ends .entry)) (now (edges .entry)) (now (blocks .entry)) free (now (work .entry)) ⌝ }
+{
+    let mut system = [0.0f32; 148608];
+    build_over(m, poses, ends, edges, blocks, free, &mut system, work)
+}
+
 fn build(
     m: Manifold,
     poses: &[f64],
@@ -692,10 +739,15 @@ fn build(
     work: &mut [f32],
 ) -> u32
     requires { ⌜ (length (now work) ≡ need (dofOf m * free)) × (length (now work) ≤ 148608) ⌝ }
-    ensures { λ r. ⌜ (r, now (work .exit)) ≡ systemOut (dofOf m * free) (now (work .entry)) (assembledEnds m (dofOf m * free) (lentLinks (now (ends .entry)) (now (edges .entry)) (now (blocks .entry)) free) (poseAt (now (poses .entry))) []) ⌝ }
+    ensures { λ r. ⌜ (r, now (work .exit)) ≡ builtOut m (now (poses .entry)) (now (ends .entry)) (now (edges .entry)) (now (blocks .entry)) free (now (work .entry)) ⌝ }
 {
-    let mut system = [0.0f32; 148608];
-    build_over(m, poses, ends, edges, blocks, free, &mut system, work)
+    if work.len() <= 40000 {
+        return build_small(m, poses, ends, edges, blocks, free, work);
+    }
+    if work.len() <= 90000 {
+        return build_middle(m, poses, ends, edges, blocks, free, work);
+    }
+    build_large(m, poses, ends, edges, blocks, free, work)
 }
 
 fn assemble(

@@ -17,6 +17,7 @@ pub mod Write
 pub mod Word
 pub mod Read
 pub mod Narrowing
+pub mod Widening
 pub mod Rooting
 pub mod Lengthening
 pub mod Cases

@@ -8,7 +8,7 @@ use native.Mathlib.Omega.{arith}
 use lib.IntN.{ℤ}
 use lib.Dec.{T, leb}
 use lib.Pow.{pow-pos, pow-mono, shl-lt}
-use lib.Ieee.{Float, nan, inf, fin, Format, prec, emax, low, fits, isNan, round, hid, ones, top, toBits, ofFields}
+use lib.Ieee.{Float, nan, inf, fin, Format, prec, emax, low, up, down, fits, isNan, round, hid, ones, top, toBits, ofFields}
 use lib.Ieee.Fits.{two, reach, two-le-pos, round-fits}
 use lib.Ieee.Exact.{HasValue, round-exact}
 use Rattle.numbers.specs.Numbers.{rounded}
@@ -76,3 +76,10 @@ unfolding rounded
 rounded-own f nan F = refl
 rounded-own f (inf s) F = refl
 rounded-own f (fin s m e) F = fin-own f s m e F
+
+-- rounded twice is rounded once
+pub rounded-twice : (f : Format) (x : Float) → rounded f (rounded f x) ≡ rounded f x
+unfolding rounded
+rounded-twice f nan = refl
+rounded-twice f (inf s) = refl
+rounded-twice f (fin s m e) = rounded-own f (round f s (m * up e) (down e)) (round-fits f s (m * up e) (down e))

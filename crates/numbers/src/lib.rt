@@ -429,3 +429,19 @@ pub fn sqrt32(x: f32) -> f32
     }
     x
 }
+
+// The f32 nearest to x, as an f64: what `widen` makes of what `narrow` makes of x, rounded in place where that f32 is a normal number.
+pub fn round32(x: f64) -> f64
+    ensures { λ r. ⌜ r ≡ rounded binary32 x ⌝ }
+{
+    if x != x {
+        return 0.0f64 / 0.0f64;
+    }
+    let b: u64 = f64::to_bits(x);
+    let mag = b & 0x7fff_ffff_ffff_ffff;
+    // From 2^-126 up to where an infinity is nearest. As in `nearest_shift`, what is added carries just where the digits kept go up.
+    if std::num::wrapping_sub_u64(mag, 0x3810_0000_0000_0000) < 0x0fdf_ffff_f000_0000 {
+        return f64::from_bits((b + 0x0fff_ffff + ((b >> 29) & 1)) & 0xffff_ffff_e000_0000);
+    }
+    widen(narrow(x))
+}

@@ -1,3 +1,5 @@
 pub mod Steps
 pub mod Costing
 pub mod Depends
+pub mod Linking
+pub mod Stowing

@@ -1,4 +1,5 @@
 pub mod Rotation
 pub mod FromMatrix
 pub mod ExpLog
+pub mod LogParts
 pub mod Samples

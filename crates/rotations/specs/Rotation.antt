@@ -94,6 +94,13 @@ finished a =
       t = record { x = narrowed (a.t .x); y = narrowed (a.t .y); z = narrowed (a.t .z) };
     }
 
+-- the numbers of a vector and of a quaternion narrowed; where a transform's own are meant, they are held as f64
+unfoldable pub roundedVec : Vec3 → Vec3
+roundedVec v = vec (narrowed v.x) (narrowed v.y) (narrowed v.z)
+
+unfoldable pub roundedQuat : Quat → Quat
+roundedQuat q = record { x = narrowed q.x; y = narrowed q.y; z = narrowed q.z; w = narrowed q.w }
+
 -- a · b
 unfoldable pub product : Transform → Transform → Transform
 product a b =

@@ -2,11 +2,12 @@
 ghost use mathlib.Core.Path.{_≡_};
 ghost use Rattle.rotations.specs.Rotation.{dot, cross, plus, minus, times};
 ghost use Rattle.rotations.specs.Rotation.{matrixOf, turned, transpose, matProduct, conjugate, quatProduct};
-ghost use Rattle.rotations.specs.Rotation.{wide, finished, product, inverse};
+ghost use Rattle.rotations.specs.Rotation.{wide, finished, roundedVec, roundedQuat, product, inverse};
 ghost use Rattle.rotations.specs.FromMatrix.{halvedBy, quatOfMatrix};
 ghost use Rattle.rotations.specs.ExpLog.{over, axis, squared, squarings, sineSeries, cosineSeries, turnBy, turnOf};
 ghost use Rattle.rotations.specs.ExpLog.{smallBend, largeBend, bend, bent, movedBy, expOf};
 ghost use Rattle.rotations.specs.ExpLog.{upright, halved, arcSeries, angleOf, unbend, logWide, narrowedTwist, logOf};
+ghost use Rattle.rotations.specs.LogParts.{angleFrom, logTurn, logTurns, logAt};
 
 pub struct Vec3 {
     pub x: f64,
@@ -82,6 +83,18 @@ pub struct WideTwist {
 pub struct Bend {
     pub b: f64,
     pub c: f64,
+}
+
+// What a quaternion gives of a log: ω and D of document 01.
+pub struct LogTurn {
+    pub w: Vec3,
+    pub d: f64,
+}
+
+// Those of two quaternions.
+pub struct LogTurns {
+    pub first: LogTurn,
+    pub second: LogTurn,
 }
 
 // exp of a turn: its quaternion, or past the reach of exp.
@@ -281,6 +294,28 @@ pub fn finish(a: Rigid) -> Transform
             y: numbers::narrow(a.t.y),
             z: numbers::narrow(a.t.z),
         },
+    }
+}
+
+// Each number narrowed, and an f64 again.
+pub fn rounded_vec(v: Vec3) -> Vec3
+    ensures { λ r. ⌜ r ≡ roundedVec v ⌝ }
+{
+    Vec3 {
+        x: numbers::round32(v.x),
+        y: numbers::round32(v.y),
+        z: numbers::round32(v.z),
+    }
+}
+
+pub fn rounded_quat(q: Quat) -> Quat
+    ensures { λ r. ⌜ r ≡ roundedQuat q ⌝ }
+{
+    Quat {
+        x: numbers::round32(q.x),
+        y: numbers::round32(q.y),
+        z: numbers::round32(q.z),
+        w: numbers::round32(q.w),
     }
 }
 
@@ -562,13 +597,19 @@ fn arc_series(t: f64) -> f64
     1.0 + t * c
 }
 
+// The turn of a quaternion halved three times: (16 a) Σ(−a·a)ᵏ/(2k+1), a = v/w.
+fn angle_from(h: Quat) -> Vec3
+    ensures { λ r. ⌜ r ≡ angleFrom h ⌝ }
+{
+    let a = vec_over(axis_of(h), h.w);
+    scaled(arc_series(-dot_of(a, a)), scaled(16.0, a))
+}
+
 // The turn of an upright quaternion, as angle times axis.
 fn angle_of(q: Quat) -> Vec3
     ensures { λ r. ⌜ r ≡ angleOf q ⌝ }
 {
-    let h = half(half(half(q)));
-    let a = vec_over(axis_of(h), h.w);
-    scaled(arc_series(-dot_of(a, a)), scaled(16.0, a))
+    angle_from(half(half(half(q))))
 }
 
 const TWELFTH: f64 = 1.0 / 12.0;
@@ -587,17 +628,59 @@ fn unbend_of(q: Quat, w: Vec3) -> f64
     (1.0 - numbers::sqrt64(s) / 2.0 * q.w / numbers::sqrt64(dot_of(v, v))) / s
 }
 
+// ω and D, from a quaternion alone.
+pub fn log_turn(q: Quat) -> LogTurn
+    ensures { λ r. ⌜ r ≡ logTurn q ⌝ }
+{
+    let u = upright_of(q);
+    let w = angle_of(u);
+    LogTurn {
+        w,
+        d: unbend_of(u, w),
+    }
+}
+
+// Those of p and of q, a step of the one and a step of the other in turn: the roots of a log wait for each other, those of two don't.
+pub fn log_turns(p: Quat, q: Quat) -> LogTurns
+    ensures { λ r. ⌜ r ≡ logTurns p q ⌝ }
+{
+    let a = upright_of(p);
+    let b = upright_of(q);
+    let a1 = half(a);
+    let b1 = half(b);
+    let a2 = half(a1);
+    let b2 = half(b1);
+    let w = angle_from(half(a2));
+    let v = angle_from(half(b2));
+    LogTurns {
+        first: LogTurn {
+            w,
+            d: unbend_of(a, w),
+        },
+        second: LogTurn {
+            w: v,
+            d: unbend_of(b, v),
+        },
+    }
+}
+
+// The log of a transform whose translation is t, by ω and D of its quaternion.
+pub fn log_at(k: LogTurn, t: Vec3) -> WideTwist
+    ensures { λ r. ⌜ r ≡ logAt k t ⌝ }
+{
+    let w = k.w;
+    WideTwist {
+        t: bent_by(w, -0.5, k.d, t),
+        r: w,
+    }
+}
+
 // log before its six numbers are narrowed.
 pub fn log_wide(a: Transform) -> WideTwist
     ensures { λ r. ⌜ r ≡ logWide a ⌝ }
 {
     let u = widened(a);
-    let q = upright_of(u.q);
-    let w = angle_of(q);
-    WideTwist {
-        t: bent_by(w, -0.5, unbend_of(q, w), u.t),
-        r: w,
-    }
+    log_at(log_turn(u.q), u.t)
 }
 
 pub fn narrow_twist(d: WideTwist) -> Twist

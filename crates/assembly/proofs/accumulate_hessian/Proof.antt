@@ -1,3 +1,4 @@
+use Rattle.assembly.proofs.Edges.{answered}
 use Prim.Native.Nat.{_≤_, _-_}
 use mathlib.Core.Path.{_≡_}
 use native.Mathlib.Omega.{arith}
@@ -30,7 +31,7 @@ same-length c = search needs
 
 returns : tie.Need-returns Inv-loop μ-loop
 unfolding blockOf
-returns c = let l = c .before .before .before .before .before .before .before .before .loop in each-early _ _ _ _ (l .inv .2) (cc) (c .before .before .before .before .before .before .before .loop-test .taken)
+returns c = let l = c .before .before .before .before .before .before .before .before .loop in each-early _ _ _ _ (l .inv .2) (answered (c .before .before .before .before .before .accumulate-row .ensures) (c .before .why .given .1)) (c .before .before .before .before .before .before .before .loop-test .taken)
 
 enum-told : tie.Need-enum-told Inv-loop μ-loop
 enum-told c = search needs
@@ -42,7 +43,7 @@ loop-less : tie.Need-loop-less Inv-loop μ-loop
 loop-less c = search needs
 
 loop-again : tie.Need-loop-again Inv-loop μ-loop
-loop-again c = let l = c .before .before .before .before .before .before .before .loop in (omega arith, omega arith, each-more _ _ _ (l .inv .2) (cc))
+loop-again c = let l = c .before .before .before .before .before .before .before .loop in (omega arith, omega arith, each-more _ _ _ (l .inv .2) (answered (c .before .before .before .before .accumulate-row .ensures) (c .enum-told .given .1)))
 
 same-length-2 : tie.Need-same-length-2 Inv-loop μ-loop
 same-length-2 c = search needs

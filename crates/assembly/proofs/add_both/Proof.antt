@@ -1,20 +1,22 @@
-use Rattle.assembly.proofs.Going.{dof-small}
 use Rattle.assembly.proofs.Edges.{both-lost, both-no-a, both-no-b, both-had}
+use Rattle.assembly.proofs.Going.{dof-small}
+use Rattle.assembly.specs.Known.{stowedProbes}
 use borrow.Author.Needs.{needs}
 use Rattle.assembly.proofs.add_both.Statement.{statement}
 use Rattle.assembly.proofs.add_both.Tie as tie
+use Rattle.assembly.proofs.add_both.Reads as reads
+use Rattle.assembly.proofs.add_both.Lts as lts
+use Rattle.assembly.proofs.add_ends.Reads as add-ends-reads
+use Rattle.assembly.proofs.edge_endpoint_jacobian.Reads as edge-endpoint-jacobian-reads
+use Rattle.assembly.proofs.went_of.Reads as went-of-reads
+use Rattle.graph.proofs.dof.Reads as dof-reads
+use Rattle.residual.proofs.six_of.Reads as six-of-reads
 
-weighted-relative-residual-requires : tie.Need-weighted-relative-residual-requires
-weighted-relative-residual-requires c κs = search needs
+enum-known-linked : tie.Need-enum-known-linked
+enum-known-linked c = search needs
 
-enum-known-d : tie.Need-enum-known-d
-enum-known-d c = search needs
-
-enum-known-why : tie.Need-enum-known-why
-enum-known-why c = search needs
-
-returns : tie.Need-returns
-returns c = both-lost _ _ _ _ _ _ (c .before .before .before .weighted-relative-residual .ensures) _ _ (c .before .why .given .1)
+enum-known-linked-2 : tie.Need-enum-known-linked-2
+enum-known-linked-2 c = search needs
 
 six-of-requires : tie.Need-six-of-requires
 six-of-requires c κs = search needs
@@ -25,11 +27,13 @@ edge-endpoint-jacobian-requires c κs = search needs
 went-of-requires : tie.Need-went-of-requires
 went-of-requires c κs = search needs
 
-enum-known-why-2 : tie.Need-enum-known-why-2
-enum-known-why-2 c = search needs
+enum-known-why : tie.Need-enum-known-why
+enum-known-why c = search needs
 
-returns-2 : tie.Need-returns-2
-returns-2 c = both-no-a _ _ _ _ _ _ (c .before .before .before .before .before .before .before .before .before .before .weighted-relative-residual .ensures) _ _ (c .before .before .before .before .before .before .before .before .d .given .1) (c .before .before .before .before .edge-endpoint-jacobian .ensures) (c .before .before .before .went-of .ensures) (c .before .why2 .given .1)
+returns : tie.Need-returns
+returns c =
+    let a = c .before .before .before .before .before .before .before .before .before .before .before .before .args in
+    both-no-a (a .m) (a .n) (stowedProbes (a .known .now) (a .a)) (stowedProbes (a .known .now) (a .b)) (a .linked) (a .i) (a .k) (a .w .now) (c .before .before .before .before .before .before .before .before .linked2 .given .1) (c .before .before .before .before .edge-endpoint-jacobian .ensures) (c .before .before .before .went-of .ensures) (c .before .why .given .1)
 
 enum-told : tie.Need-enum-told
 enum-told c = search needs
@@ -40,11 +44,13 @@ edge-endpoint-jacobian-requires-2 c κs = search needs
 went-of-requires-2 : tie.Need-went-of-requires-2
 went-of-requires-2 c κs = search needs
 
-enum-known-why-3 : tie.Need-enum-known-why-3
-enum-known-why-3 c = search needs
+enum-known-why-2 : tie.Need-enum-known-why-2
+enum-known-why-2 c = search needs
 
-returns-3 : tie.Need-returns-3
-returns-3 c = both-no-b _ _ _ _ _ _ (c .before .before .before .before .before .before .before .before .before .before .before .before .before .before .before .weighted-relative-residual .ensures) _ _ (c .before .before .before .before .before .before .before .before .before .before .before .before .before .d .given .1) (c .before .before .before .before .before .before .before .before .before .edge-endpoint-jacobian .ensures) (c .before .before .before .before .before .before .before .before .went-of .ensures) (c .before .before .before .before .before .before .enum-told .given .1) (c .before .before .before .before .edge-endpoint-jacobian2 .ensures) (c .before .before .before .went-of2 .ensures) (c .before .why3 .given .1)
+returns-2 : tie.Need-returns-2
+returns-2 c =
+    let a = c .before .before .before .before .before .before .before .before .before .before .before .before .before .before .before .before .before .args in
+    both-no-b (a .m) (a .n) (stowedProbes (a .known .now) (a .a)) (stowedProbes (a .known .now) (a .b)) (a .linked) (a .i) (a .k) (a .w .now) (c .before .before .before .before .before .before .before .before .before .before .before .before .before .linked2 .given .1) (c .before .before .before .before .before .before .before .before .before .edge-endpoint-jacobian .ensures) (c .before .before .before .before .before .before .before .before .went-of .ensures) (c .before .before .before .before .before .before .enum-told .given .1) (c .before .before .before .before .edge-endpoint-jacobian2 .ensures) (c .before .before .before .went-of2 .ensures) (c .before .why2 .given .1)
 
 enum-told-2 : tie.Need-enum-told-2
 enum-told-2 c = search needs
@@ -53,34 +59,43 @@ dof-requires : tie.Need-dof-requires
 dof-requires c κs = search needs
 
 add-ends-requires : tie.Need-add-ends-requires
-add-ends-requires c κs = rw (c .before .before .before .dof .ensures) (c .before .before .before .before .before .before .before .before .before .before .before .before .before .before .before .before .before .before .before .before .before .pre .0, c .before .before .before .before .before .before .before .before .before .before .before .before .before .before .before .before .before .before .before .before .before .pre .1, c .before .before .before .before .before .before .before .before .before .before .before .before .before .before .before .before .before .before .before .before .before .pre .2, dof-small (c .before .before .before .before .before .before .before .before .before .before .before .before .before .before .before .before .before .before .before .before .before .args .m))
+add-ends-requires c κs =
+    let a = c .before .before .before .before .before .before .before .before .before .before .before .before .before .before .before .before .before .before .before .before .before .args in
+    let pre = c .before .before .before .before .before .before .before .before .before .before .before .before .before .before .before .before .before .before .before .before .before .pre in
+    rw (c .before .before .before .dof .ensures) (pre .0, pre .1, pre .7, dof-small (a .m))
+
+returns-3 : tie.Need-returns-3
+returns-3 c =
+    let a = c .before .before .before .before .before .args in
+    both-lost (a .m) (a .n) (stowedProbes (a .known .now) (a .a)) (stowedProbes (a .known .now) (a .b)) (a .linked) (a .i) (a .k) (a .w .now) (c .before .linked .given .1)
 
 same-length : tie.Need-same-length
 same-length c = search needs
 
 returns-4 : tie.Need-returns-4
-returns-4 c = both-had _ _ _ _ _ _ (c .before .before .before .before .before .before .before .before .before .before .before .before .before .before .before .before .before .before .before .before .before .before .weighted-relative-residual .ensures) _ _ (c .before .before .before .before .before .before .before .before .before .before .before .before .before .before .before .before .before .before .before .before .d .given .1) (c .before .before .before .before .before .before .before .before .before .before .before .before .before .before .before .before .edge-endpoint-jacobian .ensures) (c .before .before .before .before .before .before .before .before .before .before .before .before .before .before .before .went-of .ensures) (c .before .before .before .before .before .before .before .before .before .before .before .before .before .enum-told .given .1) (c .before .before .before .before .before .before .before .before .before .before .before .edge-endpoint-jacobian2 .ensures) (c .before .before .before .before .before .before .before .before .before .before .went-of2 .ensures) (c .before .before .before .before .before .before .before .before .enum-told2 .given .1) (c .before .before .before .before .before .before .before .before .before .before .before .before .before .before .before .before .before .before .six-of .ensures) (c .before .before .before .before .before .before .dof .ensures) (c .before .before .add-ends .ensures)
+returns-4 c =
+    let a = c .before .before .before .before .before .before .before .before .before .before .before .before .before .before .before .before .before .before .before .before .before .before .before .before .args in
+    both-had (a .m) (a .n) (stowedProbes (a .known .now) (a .a)) (stowedProbes (a .known .now) (a .b)) (a .linked) (a .i) (a .k) (a .w .now) (c .before .before .before .before .before .before .before .before .before .before .before .before .before .before .before .before .before .before .before .before .linked2 .given .1) (c .before .before .before .before .before .before .before .before .before .before .before .before .before .before .before .before .edge-endpoint-jacobian .ensures) (c .before .before .before .before .before .before .before .before .before .before .before .before .before .before .before .went-of .ensures) (c .before .before .before .before .before .before .before .before .before .before .before .before .before .enum-told .given .1) (c .before .before .before .before .before .before .before .before .before .before .before .edge-endpoint-jacobian2 .ensures) (c .before .before .before .before .before .before .before .before .before .before .went-of2 .ensures) (c .before .before .before .before .before .before .before .before .enum-told2 .given .1) (c .before .before .before .before .before .before .before .before .before .before .before .before .before .before .before .before .before .before .six-of .ensures) (c .before .before .before .before .before .before .dof .ensures) (c .before .before .add-ends .ensures)
 
 pub add-both-spec : {M : Type 1} → statement M
 add-both-spec =
     tie.close
     (tie.spec
-    weighted-relative-residual-requires
-    enum-known-d
-    enum-known-why
-    returns
+    enum-known-linked
+    enum-known-linked-2
     six-of-requires
     edge-endpoint-jacobian-requires
     went-of-requires
-    enum-known-why-2
-    returns-2
+    enum-known-why
+    returns
     enum-told
     edge-endpoint-jacobian-requires-2
     went-of-requires-2
-    enum-known-why-3
-    returns-3
+    enum-known-why-2
+    returns-2
     enum-told-2
     dof-requires
     add-ends-requires
+    returns-3
     same-length
     returns-4)

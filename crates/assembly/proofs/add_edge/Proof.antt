@@ -1,7 +1,14 @@
-use Rattle.assembly.specs.Assembly.{edgeOf}
 use borrow.Author.Needs.{needs}
+use Rattle.assembly.proofs.Knowing.{one-known-a, one-known-b, both-known}
+use Rattle.assembly.specs.Assembly.{edgeOf}
+use Rattle.graph.specs.Lent.{edgeAt}
 use Rattle.assembly.proofs.add_edge.Statement.{statement}
 use Rattle.assembly.proofs.add_edge.Tie as tie
+use Rattle.assembly.proofs.add_edge.Reads as reads
+use Rattle.assembly.proofs.add_edge.Lts as lts
+use Rattle.assembly.proofs.add_both.Reads as add-both-reads
+use Rattle.assembly.proofs.add_one.Reads as add-one-reads
+use Rattle.assembly.proofs.link.Reads as link-reads
 
 enum-told : tie.Need-enum-told
 enum-told c = search needs
@@ -12,23 +19,29 @@ enum-told-2 c = search needs
 enum-known-sb : tie.Need-enum-known-sb
 enum-known-sb c = search needs
 
+link-requires : tie.Need-link-requires
+link-requires c κs = c .before .before .before .before .before .before .before .before .before .pre .2
+
 add-one-requires : tie.Need-add-one-requires
-add-one-requires c κs = (c .before .before .before .before .before .before .before .pre .1 _ (c .before .before .sb .given .1), c .before .before .before .before .before .before .before .pre .2)
+add-one-requires c κs = let f = c .before .before .before .before .before .before .before .before .before .before .before .pre .1 _ (c .before .before .before .sb .given .1) in (f .fits, f .below, f .len, f .shares, c .before .before .before .before .before .before .before .before .before .before .before .pre .3)
 
 enum-known-sa : tie.Need-enum-known-sa
 enum-known-sa c = search needs
+
+link-requires-2 : tie.Need-link-requires-2
+link-requires-2 c κs = c .before .before .before .before .before .before .before .pre .2
 
 enum-told-3 : tie.Need-enum-told-3
 enum-told-3 c = search needs
 
 add-one-requires-2 : tie.Need-add-one-requires-2
-add-one-requires-2 c κs = (c .before .before .before .before .before .before .before .pre .0 _ (c .before .before .before .before .sa .given .1), c .before .before .before .before .before .before .before .pre .2)
+add-one-requires-2 c κs = let f = c .before .before .before .before .before .before .before .before .before .before .before .pre .0 _ (c .before .before .before .before .before .sa .given .1) in (f .fits, f .below, f .len, f .shares, c .before .before .before .before .before .before .before .before .before .before .before .pre .3)
 
 enum-known-sb-2 : tie.Need-enum-known-sb-2
 enum-known-sb-2 c = search needs
 
 add-both-requires : tie.Need-add-both-requires
-add-both-requires c κs = (c .before .before .before .before .before .before .before .before .pre .0 _ (c .before .before .before .before .before .sa .given .1), c .before .before .before .before .before .before .before .before .pre .1 _ (c .before .before .sb2 .given .1), c .before .before .before .before .before .before .before .before .pre .2)
+add-both-requires c κs = let f = c .before .before .before .before .before .before .before .before .before .before .before .before .pre .0 _ (c .before .before .before .before .before .before .sa .given .1) in let g = c .before .before .before .before .before .before .before .before .before .before .before .before .pre .1 _ (c .before .before .sb2 .given .1) in (f .fits, g .fits, f .below, g .below, f .len, f .shares, g .shares, c .before .before .before .before .before .before .before .before .before .before .before .before .pre .3)
 
 returns : tie.Need-returns
 unfolding edgeOf
@@ -39,21 +52,27 @@ same-length c = search needs
 
 returns-2 : tie.Need-returns-2
 unfolding edgeOf
-returns-2 c = rw (c .before .before .before .before .before .before .before .enum-told .given .1, c .before .before .before .before .before .sb .given .1) (c .before .before .add-one .ensures)
+returns-2 c =
+    let a = c .before .before .before .before .before .before .before .before .before .before .before .before .before .before .args in
+    rw (c .before .before .before .before .before .before .before .before .enum-told .given .1, c .before .before .before .before .before .before .sb .given .1) (one-known-b (a .m) (a .n) (a .poses .now) (a .known .now) (a .ends .a) (a .ends .b) (edgeAt (a .edges .now) (a .k)) (a .w .now) (c .before .before .before .before .link .ensures) (c .before .before .before .before .before .before .before .before .before .before .before .before .before .before .pre .1 _ (c .before .before .before .before .before .before .sb .given .1)) (c .before .before .add-one .ensures))
 
 same-length-2 : tie.Need-same-length-2
 same-length-2 c = search needs
 
 returns-3 : tie.Need-returns-3
 unfolding edgeOf
-returns-3 c = rw (c .before .before .before .before .before .before .before .sa .given .1, c .before .before .before .before .enum-told3 .given .1) (c .before .before .add-one2 .ensures)
+returns-3 c =
+    let a = c .before .before .before .before .before .before .before .before .before .before .before .before .before .before .args in
+    rw (c .before .before .before .before .before .before .before .before .sa .given .1, c .before .before .before .before .enum-told3 .given .1) (one-known-a (a .m) (a .n) (a .poses .now) (a .known .now) (a .ends .a) (a .ends .b) (edgeAt (a .edges .now) (a .k)) (a .w .now) (c .before .before .before .before .before .before .link2 .ensures) (c .before .before .before .before .before .before .before .before .before .before .before .before .before .before .pre .0 _ (c .before .before .before .before .before .before .before .before .sa .given .1)) (c .before .before .add-one2 .ensures))
 
 same-length-3 : tie.Need-same-length-3
 same-length-3 c = search needs
 
 returns-4 : tie.Need-returns-4
 unfolding edgeOf
-returns-4 c = rw (c .before .before .before .before .before .before .before .before .sa .given .1, c .before .before .before .before .before .sb2 .given .1) (c .before .before .add-both .ensures)
+returns-4 c =
+    let a = c .before .before .before .before .before .before .before .before .before .before .before .before .before .before .before .args in
+    rw (c .before .before .before .before .before .before .before .before .before .sa .given .1, c .before .before .before .before .before .sb2 .given .1) (both-known (a .m) (a .n) (a .poses .now) (a .known .now) (a .ends .a) (a .ends .b) (edgeAt (a .edges .now) (a .k)) (a .w .now) (c .before .before .before .before .before .before .before .link2 .ensures) (c .before .before .before .before .before .before .before .before .before .before .before .before .before .before .before .pre .0 _ (c .before .before .before .before .before .before .before .before .before .sa .given .1)) (c .before .before .before .before .before .before .before .before .before .before .before .before .before .before .before .pre .1 _ (c .before .before .before .before .before .sb2 .given .1)) (c .before .before .add-both .ensures))
 
 pub add-edge-spec : {M : Type 1} → statement M
 add-edge-spec =
@@ -62,8 +81,10 @@ add-edge-spec =
     enum-told
     enum-told-2
     enum-known-sb
+    link-requires
     add-one-requires
     enum-known-sa
+    link-requires-2
     enum-told-3
     add-one-requires-2
     enum-known-sb-2

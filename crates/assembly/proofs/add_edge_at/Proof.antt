@@ -1,7 +1,14 @@
-use Rattle.assembly.proofs.Edges.{edge-added, slot-fits}
 use borrow.Author.Needs.{needs}
+use Rattle.assembly.proofs.Knowing.{free-known}
+use Rattle.assembly.proofs.Edges.{edge-added}
+use mathlib.Core.Path.{refl}
 use Rattle.assembly.proofs.add_edge_at.Statement.{statement}
 use Rattle.assembly.proofs.add_edge_at.Tie as tie
+use Rattle.assembly.proofs.add_edge_at.Reads as reads
+use Rattle.assembly.proofs.add_edge_at.Lts as lts
+use Rattle.assembly.proofs.add_edge.Reads as add-edge-reads
+use Rattle.graph.proofs.slot_at.Reads as slot-at-reads
+use Rattle.numbers.proofs.index_at.Reads as index-at-reads
 
 mul-index-at : tie.Need-mul-index-at
 mul-index-at c = search needs
@@ -24,23 +31,19 @@ slot-at-requires c κs = search needs
 slot-at-requires-2 : tie.Need-slot-at-requires-2
 slot-at-requires-2 c κs = search needs
 
-pose-at-requires : tie.Need-pose-at-requires
-pose-at-requires c κs = search needs
-
-pose-at-requires-2 : tie.Need-pose-at-requires-2
-pose-at-requires-2 c κs = search needs
-
-edge-at-requires : tie.Need-edge-at-requires
-edge-at-requires c κs = search needs
-
 add-edge-requires : tie.Need-add-edge-requires
-add-edge-requires c κs = let a = c .before .before .before .before .before .before .before .before .before .before .before .before .args in (slot-fits (a .m) (a .blocks .now) (a .free) _ (c .before .before .before .before .before .before .before .before .before .before .before .before .pre .0) (c .before .before .before .before .before .slot-at .ensures), slot-fits (a .m) (a .blocks .now) (a .free) _ (c .before .before .before .before .before .before .before .before .before .before .before .before .pre .0) (c .before .before .before .before .slot-at2 .ensures), c .before .before .before .before .before .before .before .before .before .before .before .before .pre .1)
+add-edge-requires c κs =
+    let a = c .before .before .before .before .before .before .before .before .before .before .args in
+    let s = c .before .before .before .before .before .before .before .before .before .before .pre .0 in
+    (free-known (a .shape .manifold) (a .shape .n) (a .poses .now) (a .known .now) (a .blocks .now) (a .shape .free) _ (s .size) (s .whole) (s .most) (s .ready) (c .before .before .slot-at .ensures), free-known (a .shape .manifold) (a .shape .n) (a .poses .now) (a .known .now) (a .blocks .now) (a .shape .free) _ (s .size) (s .whole) (s .most) (s .ready) (c .before .slot-at2 .ensures), s .ready .bases, c .before .before .before .before .before .before .before .before .before .before .pre .1)
 
 same-length : tie.Need-same-length
 same-length c = search needs
 
 returns : tie.Need-returns
-returns c = let a = c .before .before .before .before .before .before .before .before .before .before .before .before .before .before .before .args in edge-added (a .m) (a .n) (a .poses .now) (a .ends .now) (a .edges .now) (a .blocks .now) (a .free) (a .k) (a .w .now) (c .before .before .before .before .before .before .before .before .before .before .index-at .ensures) (c .before .before .before .before .before .before .before .before .before .index-at2 .ensures) (c .before .before .before .before .before .before .before .before .slot-at .ensures) (c .before .before .before .before .before .before .before .slot-at2 .ensures) (c .before .before .before .before .before .before .pose-at .ensures) (c .before .before .before .before .before .pose-at2 .ensures) (c .before .before .before .before .edge-at .ensures) (c .before .before .add-edge .ensures)
+returns c =
+    let a = c .before .before .before .before .before .before .before .before .before .before .before .before .before .args in
+    edge-added (a .shape .manifold) (a .shape .n) (a .poses .now) (a .ends .now) (a .edges .now) (a .blocks .now) (a .shape .free) (a .k) (a .w .now) (c .before .before .before .before .before .before .before .index-at .ensures) (c .before .before .before .before .before .before .index-at2 .ensures) (c .before .before .before .before .before .slot-at .ensures) (c .before .before .before .before .slot-at2 .ensures) refl refl refl (c .before .before .add-edge .ensures)
 
 pub add-edge-at-spec : {M : Type 1} → statement M
 add-edge-at-spec =
@@ -53,9 +56,6 @@ add-edge-at-spec =
     index-at-requires-2
     slot-at-requires
     slot-at-requires-2
-    pose-at-requires
-    pose-at-requires-2
-    edge-at-requires
     add-edge-requires
     same-length
     returns)

@@ -23,7 +23,7 @@ same-length c = search needs
 
 returns : tie.Need-returns
 unfolding addTo
-returns c = cc
+returns c = rw (c .must-be-finite .ensures)
 
 pub add-to-spec : {M : Type 1} → statement M
 add-to-spec =

@@ -1,83 +1,66 @@
-use Rattle.assembly.proofs.Edges.{edgeStep, answered, unknowns, has-space, too-short, bad-edge, all-edges}
-use Prim.Native.Nat.{_*_, _≤_, _-_}
-use Rattle.solve.specs.Work.{need}
-use mathlib.Core.Path.{_≡_, refl, ap}
-use native.Mathlib.Omega.{arith}
-use lib.ListN.{length}
-use Rattle.numbers.specs.Walks.{each, done}
-use Rattle.numbers.proofs.Walking.{each-none, each-more}
-use Rattle.graph.specs.Lent.{poseAt, lentLinks}
+use Rattle.assembly.proofs.Edges.{unknowns, has-space, too-short, assembled-by, room-kept}
+use Rattle.assembly.proofs.Laws.{cleared-length}
 use Rattle.assembly.proofs.Going.{dof-small}
+use Rattle.graph.specs.Lent.{poseAt, lentLinks}
+use Rattle.solve.specs.Work.{need}
+use lib.ListN.{length}
+use native.Mathlib.Omega.{arith}
+use mathlib.Core.Path.{_≡_, ap}
+use Prim.Native.Nat.{_*_, _≤_}
 use borrow.Author.Needs.{needs}
 use Rattle.assembly.proofs.build_normal_system_with_mapping.Statement.{statement}
 use Rattle.assembly.proofs.build_normal_system_with_mapping.Tie as tie
+use Rattle.assembly.proofs.build_normal_system_with_mapping.Reads as reads
+use Rattle.assembly.proofs.build_normal_system_with_mapping.Lts as lts
+use Rattle.assembly.proofs.add_all.Reads as add-all-reads
+use Rattle.assembly.proofs.clear.Reads as clear-reads
+use Rattle.assembly.proofs.count_blocks.Reads as count-blocks-reads
+use Rattle.graph.proofs.dof.Reads as dof-reads
+use Rattle.solve.proofs.has_room.Reads as has-room-reads
 
-abbrev Inv-loop : tie.InvT-loop
-Inv-loop w₀ m poses ends edges blocks free n k₀ k-end w k = (k ≤ k-end) × (length w ≡ length w₀) × (each (edgeStep m n (lentLinks ends edges blocks free) (poseAt poses)) k w₀ ≡ done w)
-
-abbrev μ-loop : tie.MeasureT-loop
-μ-loop w₀ m poses ends edges blocks free n k₀ k-end w k = k-end - k
-
-dof-requires : tie.Need-dof-requires Inv-loop μ-loop
+dof-requires : tie.Need-dof-requires
 dof-requires c κs = search needs
 
-mul-n : tie.Need-mul-n Inv-loop μ-loop
+mul-n : tie.Need-mul-n
 mul-n c = omega (arith, unknowns (c .dof .result) (c .before .before .before .before .before .args .free) (rw (c .dof .ensures) (dof-small (c .before .before .before .before .before .args .m))))
 
-has-room-requires : tie.Need-has-room-requires Inv-loop μ-loop
+has-room-requires : tie.Need-has-room-requires
 has-room-requires c κs = search needs
 
-returns : tie.Need-returns Inv-loop μ-loop
-returns c = let a = c .before .before .before .before .before .before .before .args in rw (← c .before .before .dof .ensures) (too-short (a .m) (c .before .before .dof .result * a .free) (lentLinks (a .ends .now) (a .edges .now) (a .blocks .now) (a .free)) (poseAt (a .poses .now)) (a .w .now) (c .before .has-room .ensures) (c .if1 .taken))
+returns : tie.Need-returns
+returns c =
+    let a = c .before .before .before .before .before .before .before .args in
+    rw (← c .before .before .dof .ensures) (too-short (a .m) (c .before .before .dof .result * a .free) (lentLinks (a .ends .now) (a .edges .now) (a .blocks .now) (a .free)) (poseAt (a .poses .now)) (a .w .now) (c .before .has-room .ensures) (c .if1 .taken))
 
-add-clear : tie.Need-add-clear Inv-loop μ-loop
+add-clear : tie.Need-add-clear
 add-clear c = omega (arith, unknowns (c .before .before .before .dof .result) (c .before .before .before .before .before .before .before .before .args .free) (rw (c .before .before .before .dof .ensures) (dof-small (c .before .before .before .before .before .before .before .before .args .m))))
 
-mul-clear : tie.Need-mul-clear Inv-loop μ-loop
+mul-clear : tie.Need-mul-clear
 mul-clear c = let s = has-space (need (c .before .before .before .dof .result * c .before .before .before .before .before .before .before .before .args .free)) (length (c .before .before .before .before .before .before .before .before .args .w .now)) (c .before .before .has-room .ensures) (c .before .if1 .left) in omega arith
 
-clear-requires : tie.Need-clear-requires Inv-loop μ-loop
+clear-requires : tie.Need-clear-requires
 clear-requires c κs = has-space (need (c .before .before .before .dof .result * c .before .before .before .before .before .before .before .before .args .free)) (length (c .before .before .before .before .before .before .before .before .args .w .now)) (c .before .before .has-room .ensures) (c .before .if1 .left)
 
-loop-holds : tie.Need-loop-holds Inv-loop μ-loop
-loop-holds c = (omega arith, refl, each-none _ _)
+count-blocks-requires : tie.Need-count-blocks-requires
+count-blocks-requires c κs = search needs
 
-add-edge-at-requires : tie.Need-add-edge-at-requires Inv-loop μ-loop
-add-edge-at-requires c κs = let s = has-space (need (c .before .before .before .before .before .before .before .before .before .dof .result * c .before .before .before .before .before .before .before .before .before .before .before .before .before .before .args .free)) (length (c .before .before .before .before .before .before .before .before .before .before .before .before .before .before .args .w .now)) (c .before .before .before .before .before .before .before .before .has-room .ensures) (c .before .before .before .before .before .before .before .if1 .left) in (ap (λ d. d * c .before .before .before .before .before .before .before .before .before .before .before .before .before .before .args .free) (c .before .before .before .before .before .before .before .before .before .dof .ensures), omega arith, omega arith)
+add-all-requires : tie.Need-add-all-requires
+add-all-requires c κs =
+    let a = c .before .before .before .before .before .before .before .before .before .before .before .before .before .args in
+    (ap (λ d. d * a .free) (c .before .before .before .before .before .before .before .before .dof .ensures), omega arith, c .before .count-blocks .ensures, room-kept (c .before .before .before .before .before .before .before .before .dof .result * a .free) (a .w .now) (c .before .before .before .before .clear .ensures) (has-space (need (c .before .before .before .before .before .before .before .before .dof .result * c .before .before .before .before .before .before .before .before .before .before .before .before .before .args .free)) (length (c .before .before .before .before .before .before .before .before .before .before .before .before .before .args .w .now)) (c .before .before .before .before .before .before .before .has-room .ensures) (c .before .before .before .before .before .before .if1 .left)))
 
-enum-known-why : tie.Need-enum-known-why Inv-loop μ-loop
-enum-known-why c = search needs
-
-same-length : tie.Need-same-length Inv-loop μ-loop
+same-length : tie.Need-same-length
 same-length c = search needs
 
-returns-2 : tie.Need-returns-2 Inv-loop μ-loop
-returns-2 c = let a = c .before .before .before .before .before .before .before .before .before .before .before .before .before .before .before .before .before .before .before .before .args in let l = c .before .before .before .before .before .before .before .before .loop in rw (← c .before .before .before .before .before .before .before .before .before .before .before .before .before .before .before .dof .ensures) (bad-edge (a .m) (c .before .before .before .before .before .before .before .before .before .before .before .before .before .before .before .dof .result * a .free) (lentLinks (a .ends .now) (a .edges .now) (a .blocks .now) (a .free)) (poseAt (a .poses .now)) (a .w .now) (c .before .before .before .before .before .before .before .before .before .before .before .before .before .before .has-room .ensures) (c .before .before .before .before .before .before .before .before .before .before .before .before .before .if1 .left) (c .before .before .before .before .before .before .before .before .before .before .before .clear .ensures) (l .k) (l .inv .2) (c .before .before .before .before .before .add-edge-at .ensures) (c .before .why .given .1) (c .before .before .before .before .before .before .before .loop-test .taken))
-
-enum-told : tie.Need-enum-told Inv-loop μ-loop
-enum-told c = search needs
-
-add-k : tie.Need-add-k Inv-loop μ-loop
-add-k c = search needs
-
-loop-less : tie.Need-loop-less Inv-loop μ-loop
-loop-less c = search needs
-
-loop-again : tie.Need-loop-again Inv-loop μ-loop
-loop-again c = (omega arith, omega arith, each-more _ _ _ (c .before .before .before .before .before .before .before .loop .inv .2) (answered (c .before .before .before .before .add-edge-at .ensures) (c .enum-told .given .1)))
-
-same-length-2 : tie.Need-same-length-2 Inv-loop μ-loop
-same-length-2 c = search needs
-
-returns-3 : tie.Need-returns-3 Inv-loop μ-loop
-returns-3 c = let a = c .before .before .before .before .before .before .before .before .before .before .before .before .before .args in let l = c .before .loop in rw (← c .before .before .before .before .before .before .before .before .dof .ensures) (all-edges (a .m) (c .before .before .before .before .before .before .before .before .dof .result * a .free) (lentLinks (a .ends .now) (a .edges .now) (a .blocks .now) (a .free)) (poseAt (a .poses .now)) (a .w .now) (c .before .before .before .before .before .before .before .has-room .ensures) (c .before .before .before .before .before .before .if1 .left) (c .before .before .before .before .clear .ensures) (l .k) (l .inv .2) (omega arith))
+returns-2 : tie.Need-returns-2
+returns-2 c =
+    let a = c .before .before .before .before .before .before .before .before .before .before .before .before .before .before .before .before .args in
+    rw (← c .before .before .before .before .before .before .before .before .before .before .before .dof .ensures) (assembled-by (a .m) (c .before .before .before .before .before .before .before .before .before .before .before .dof .result * a .free) (lentLinks (a .ends .now) (a .edges .now) (a .blocks .now) (a .free)) (poseAt (a .poses .now)) (a .w .now) (c .before .before .before .before .before .before .before .before .before .before .has-room .ensures) (c .before .before .before .before .before .before .before .before .before .if1 .left) (c .before .before .before .before .before .before .before .clear .ensures) (c .before .before .add-all .ensures))
 
 pub build-normal-system-with-mapping-spec : {M : Type 1} → statement M
 build-normal-system-with-mapping-spec =
     tie.close
     (tie.spec
-    Inv-loop
-    μ-loop
     dof-requires
     mul-n
     has-room-requires
@@ -85,14 +68,7 @@ build-normal-system-with-mapping-spec =
     add-clear
     mul-clear
     clear-requires
-    loop-holds
-    add-edge-at-requires
-    enum-known-why
+    count-blocks-requires
+    add-all-requires
     same-length
-    returns-2
-    enum-told
-    add-k
-    loop-less
-    loop-again
-    same-length-2
-    returns-3)
+    returns-2)

@@ -1,77 +1,72 @@
-use mathlib.Core.Path.{_≡_, refl}
-use lib.Ieee.{ofBits}
-use Rattle.assembly.proofs.Going.{dof-small, columns, column-more, jacobian-stopped, jacobian-whole}
-use Prim.Native.Nat.{_≤_, _-_}
+use mathlib.Core.Path.{sym, ap, _∙_}
 use native.Mathlib.Omega.{arith}
+use lib.Ieee.{ofBits}
 use Rattle.numbers.specs.Notation.{ratio}
-use Rattle.numbers.specs.Walks.{each, done}
 use Rattle.graph.specs.Lent.{dofOf}
+use Rattle.residual.specs.Stowed.{stowedIn}
+use Rattle.assembly.specs.Known.{stowedProbes}
+use Rattle.assembly.proofs.Knowing.{dof-large, first-cell}
+use Rattle.assembly.proofs.SideBySide.{first-lost, shift-shared}
 use borrow.Author.Needs.{needs}
 use Rattle.assembly.proofs.edge_endpoint_jacobian.Statement.{statement}
 use Rattle.assembly.proofs.edge_endpoint_jacobian.Tie as tie
 
-abbrev Inv-loop : tie.InvT-loop
-Inv-loop m a b edge end code₀ j₀ dof c₀ code j c = (dof ≡ dofOf m) × (c ≤ dof) × (columns m a b edge end c ≡ done j)
+mul-stowed : tie.Need-mul-stowed
+mul-stowed c = search needs
 
-abbrev μ-loop : tie.MeasureT-loop
-μ-loop m a b edge end code₀ j₀ dof c₀ code j c = dof - c
+add-stowed : tie.Need-add-stowed
+add-stowed c = search needs
 
-dof-requires : tie.Need-dof-requires Inv-loop μ-loop
-dof-requires c κs = search needs
+stowed-requires : tie.Need-stowed-requires
+stowed-requires c κs = search needs
 
-loop-holds : tie.Need-loop-holds Inv-loop μ-loop
-unfolding each ratio ofBits
-loop-holds c = (c .dof .ensures, omega arith, refl)
+enum-known-t : tie.Need-enum-known-t
+enum-known-t c = search needs
 
-column-requires : tie.Need-column-requires Inv-loop μ-loop
-column-requires c κs = let a = c .before .before .before .args in omega (arith, dof-small (a .m))
+widened-requires : tie.Need-widened-requires
+widened-requires c κs = search needs
 
-enum-known-d : tie.Need-enum-known-d Inv-loop μ-loop
-enum-known-d c = search needs
-
-put-six-requires : tie.Need-put-six-requires Inv-loop μ-loop
-put-six-requires c κs = let a = c .before .before .before .before .before .before .before .before .args in omega (arith, dof-small (a .m))
-
-enum-known-why : tie.Need-enum-known-why Inv-loop μ-loop
+enum-known-why : tie.Need-enum-known-why
 enum-known-why c = search needs
 
-code-of-requires : tie.Need-code-of-requires Inv-loop μ-loop
+code-of-requires : tie.Need-code-of-requires
 code-of-requires c κs = search needs
 
-returns : tie.Need-returns Inv-loop μ-loop
-returns c = let l = c .before .before .before .before .before .before .loop in jacobian-stopped _ _ _ _ _ (l .c) (l .inv .0) (l .inv .2) (c .before .before .before .before .column .ensures) (c .before .before .why .given .1) (c .before .before .before .before .before .loop-test .taken) (c .code-of .ensures)
+returns : tie.Need-returns
+unfolding ratio ofBits
+returns c =
+    let a = c .before .before .before .before .before .before .args in
+    first-lost (a .l) (a .end) (dofOf (a .m)) (stowedProbes (a .known .now) (a .x)) (omega (arith, dof-large (a .m)))
+    (first-cell (a .known .now) (a .x) ∙ sym (c .before .before .before .before .stowed .ensures) ∙ c .before .before .why .given .1)
+    (c .code-of .ensures)
 
-add-c : tie.Need-add-c Inv-loop μ-loop
-add-c c = search needs
+hinge-of-requires : tie.Need-hinge-of-requires
+hinge-of-requires c κs = search needs
 
-loop-less : tie.Need-loop-less Inv-loop μ-loop
-loop-less c = search needs
+columns-requires : tie.Need-columns-requires
+columns-requires c κs =
+    let a = c .before .before .before .before .before .before .before .before .args in
+    let pre = c .before .before .before .before .before .before .before .before .pre in
+    let first = first-cell (a .known .now) (a .x) ∙ sym (c .before .before .before .before .before .before .stowed .ensures) ∙ c .before .before .before .before .t .given .1 in
+    let shared =
+    shift-shared (a .l) (a .end) {probe = stowedProbes (a .known .now) (a .x)} (pre .2) first (c .before .before .widened .ensures) (c .before .hinge-of .ensures) in
+    (pre .0, pre .1, shared)
 
-loop-again : tie.Need-loop-again Inv-loop μ-loop
-loop-again c = let l = c .before .before .before .before .before .before .before .loop in (l .inv .0, omega arith, column-more _ _ _ _ _ (l .c) (l .inv .0) (l .inv .2) (c .before .before .before .before .before .column .ensures) (c .before .before .before .d .given .1) (c .put-six .ensures))
-
-code-of-requires-2 : tie.Need-code-of-requires-2 Inv-loop μ-loop
-code-of-requires-2 c κs = search needs
-
-returns-2 : tie.Need-returns-2 Inv-loop μ-loop
-returns-2 c = let l = c .before .before .loop in jacobian-whole _ _ _ _ _ (l .c) (l .inv .0) (l .inv .2) (omega arith) (c .code-of2 .ensures)
+returns-2 : tie.Need-returns-2
+returns-2 c = c .columns .ensures
 
 pub edge-endpoint-jacobian-spec : {M : Type 1} → statement M
 edge-endpoint-jacobian-spec =
     tie.close
     (tie.spec
-    Inv-loop
-    μ-loop
-    dof-requires
-    loop-holds
-    column-requires
-    enum-known-d
-    put-six-requires
+    mul-stowed
+    add-stowed
+    stowed-requires
+    enum-known-t
+    widened-requires
     enum-known-why
     code-of-requires
     returns
-    add-c
-    loop-less
-    loop-again
-    code-of-requires-2
+    hinge-of-requires
+    columns-requires
     returns-2)

@@ -14,7 +14,7 @@ slope-of-requires-3 c κs = search needs
 
 returns : tie.Need-returns
 unfolding slopeVec
-returns c = cc
+returns c = rw (c .slope-of3 .ensures, c .before .slope-of2 .ensures, c .before .before .slope-of .ensures)
 
 pub slope-vec-spec : {M : Type 1} → statement M
 slope-vec-spec =

@@ -14,7 +14,7 @@ vec32-from-requires-3 c κs = search needs
 
 returns : tie.Need-returns
 unfolding matrixFrom
-returns c = cc
+returns c = rw (c .vec32-from3 .ensures, c .before .vec32-from2 .ensures, c .before .before .vec32-from .ensures)
 
 pub matrix-from-spec : {M : Type 1} → statement M
 matrix-from-spec =

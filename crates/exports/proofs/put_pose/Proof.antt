@@ -15,7 +15,7 @@ same-length : tie.Need-same-length
 same-length c = search needs
 
 returns : tie.Need-returns
-returns c = cc
+returns c = rw (c .before .before .give64 .ensures, c .before .before .before .before .numbers-of .ensures)
 
 pub put-pose-spec : {M : Type 1} → statement M
 put-pose-spec =

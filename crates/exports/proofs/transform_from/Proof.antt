@@ -20,7 +20,14 @@ vec32-from-requires c κs = search needs
 
 returns : tie.Need-returns
 unfolding transformFrom
-returns c = cc
+returns c =
+    rw (
+      c .vec32-from .ensures,
+      c .before .at324 .ensures,
+      c .before .before .at323 .ensures,
+      c .before .before .before .at322 .ensures,
+      c .before .before .before .before .at32 .ensures,
+    )
 
 pub transform-from-spec : {M : Type 1} → statement M
 transform-from-spec =

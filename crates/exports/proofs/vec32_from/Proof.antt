@@ -18,7 +18,7 @@ at32-requires-3 : tie.Need-at32-requires-3
 at32-requires-3 c κs = search needs
 
 returns : tie.Need-returns
-returns c = cc
+returns c = rw (c .at323 .ensures, c .before .at322 .ensures, c .before .before .at32 .ensures)
 
 pub vec32-from-spec : {M : Type 1} → statement M
 vec32-from-spec =

@@ -1,3 +1,4 @@
+use mathlib.Core.Path.{refl, sym, _∙_}
 use Rattle.numbers.proofs.Choices.{taken, left}
 use Rattle.pose_conversion.specs.Conversions.{checkedTransform}
 use borrow.Author.Needs.{needs}
@@ -15,11 +16,13 @@ valid-se3-requires c κs = search needs
 
 returns : tie.Need-returns
 unfolding checkedTransform
-returns c = taken _ (cc) (cc)
+returns c =
+    taken _ (sym (c .before .before .before .validate-pose .ensures) ∙ c .before .before .if1 .taken)
+    (rw (c .valid-se3 .ensures, c .before .pose-to-se3 .ensures))
 
 returns-2 : tie.Need-returns-2
 unfolding checkedTransform
-returns-2 c = left _ (cc) (cc)
+returns-2 c = left _ (sym (c .before .validate-pose .ensures) ∙ c .if1 .left) refl
 
 pub checked-pose-to-se3-spec : {M : Type 1} → statement M
 checked-pose-to-se3-spec =

@@ -1,3 +1,4 @@
+use mathlib.Core.Path.{refl, sym, _∙_}
 use Rattle.numbers.proofs.Choices.{taken, left}
 use Rattle.pose_conversion.specs.Conversions.{checkedPose}
 use borrow.Author.Needs.{needs}
@@ -15,11 +16,13 @@ valid-pose-requires c κs = search needs
 
 returns : tie.Need-returns
 unfolding checkedPose
-returns c = taken _ (cc) (cc)
+returns c =
+    taken _ (sym (c .before .before .before .validate-se3 .ensures) ∙ c .before .before .if1 .taken)
+    (rw (c .valid-pose .ensures, c .before .se3-to-pose .ensures))
 
 returns-2 : tie.Need-returns-2
 unfolding checkedPose
-returns-2 c = left _ (cc) (cc)
+returns-2 c = left _ (sym (c .before .validate-se3 .ensures) ∙ c .if1 .left) refl
 
 pub checked-se3-to-pose-spec : {M : Type 1} → statement M
 checked-se3-to-pose-spec =

@@ -14,7 +14,7 @@ vec3-to-f64-requires-3 c κs = search needs
 
 returns : tie.Need-returns
 unfolding matF64
-returns c = cc
+returns c = rw (c .vec3-to-f643 .ensures, c .before .vec3-to-f642 .ensures, c .before .before .vec3-to-f64 .ensures)
 
 pub mat3-to-f64-spec : {M : Type 1} → statement M
 mat3-to-f64-spec =

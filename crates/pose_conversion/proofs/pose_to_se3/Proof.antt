@@ -14,7 +14,7 @@ vec3-to-f32-requires c κs = search needs
 
 returns : tie.Need-returns
 unfolding transformOf
-returns c = cc
+returns c = rw (c .vec3-to-f32 .ensures, c .before .quat-of-matrix .ensures, c .before .before .mat3-to-f32 .ensures)
 
 pub pose-to-se3-spec : {M : Type 1} → statement M
 pose-to-se3-spec =

@@ -14,7 +14,7 @@ mat3-to-f32-requires c κs = search needs
 
 returns : tie.Need-returns
 unfolding rebuilt
-returns c = cc
+returns c = rw (c .mat3-to-f32 .ensures, c .before .matrix-of .ensures, c .before .before .widened .ensures)
 
 pub rebuilt-matrix-spec : {M : Type 1} → statement M
 rebuilt-matrix-spec =

@@ -17,7 +17,13 @@ vec3-f64-is-finite-requires-4 c κs = search needs
 
 returns : tie.Need-returns
 unfolding finitePose
-returns c = cc
+returns c =
+    rw (
+      c .vec3-f64-is-finite4 .ensures,
+      c .before .vec3-f64-is-finite3 .ensures,
+      c .before .before .vec3-f64-is-finite2 .ensures,
+      c .before .before .before .vec3-f64-is-finite .ensures,
+    )
 
 pub validate-pose-spec : {M : Type 1} → statement M
 validate-pose-spec =

@@ -12,7 +12,7 @@ is-finite32-requires-3 : tie.Need-is-finite32-requires-3
 is-finite32-requires-3 c κs = search needs
 
 returns : tie.Need-returns
-returns c = cc
+returns c = rw (c .is-finite323 .ensures, c .before .is-finite322 .ensures, c .before .before .is-finite32 .ensures)
 
 pub vec3-f32-is-finite-spec : {M : Type 1} → statement M
 vec3-f32-is-finite-spec =

@@ -12,7 +12,7 @@ is-finite64-requires-3 : tie.Need-is-finite64-requires-3
 is-finite64-requires-3 c κs = search needs
 
 returns : tie.Need-returns
-returns c = cc
+returns c = rw (c .is-finite643 .ensures, c .before .is-finite642 .ensures, c .before .before .is-finite64 .ensures)
 
 pub vec3-f64-is-finite-spec : {M : Type 1} → statement M
 vec3-f64-is-finite-spec =

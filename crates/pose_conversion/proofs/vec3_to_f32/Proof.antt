@@ -14,7 +14,7 @@ narrow-requires-3 c κs = search needs
 
 returns : tie.Need-returns
 unfolding vecF32
-returns c = cc
+returns c = rw (c .narrow3 .ensures, c .before .narrow2 .ensures, c .before .before .narrow .ensures)
 
 pub vec3-to-f32-spec : {M : Type 1} → statement M
 vec3-to-f32-spec = tie.close (tie.spec narrow-requires narrow-requires-2 narrow-requires-3 returns)

@@ -14,7 +14,7 @@ widen-requires-3 c κs = search needs
 
 returns : tie.Need-returns
 unfolding vecF64
-returns c = cc
+returns c = rw (c .widen3 .ensures, c .before .widen2 .ensures, c .before .before .widen .ensures)
 
 pub vec3-to-f64-spec : {M : Type 1} → statement M
 vec3-to-f64-spec = tie.close (tie.spec widen-requires widen-requires-2 widen-requires-3 returns)

@@ -1,6 +1,10 @@
-use denote.Ref.{now}
-use Rattle.graph.specs.Lent.{poseAt, lentLinks}
 use Rattle.residual.proofs.Costing.{passed-over, counted}
+use Rattle.residual.specs.declared.Residual.{Residual}
+use Rattle.residual.specs.Costs.{priced, pricedFrom}
+use Rattle.graph.specs.Lent.{poseAt, lentLinks}
+use mathlib.Core.Path.{ap, _∙_}
+use denote.Ref.{now}
+use Rattle.residual.proofs.Stowing.{residual-stowed}
 use borrow.Author.Needs.{needs}
 use Rattle.residual.proofs.active_edge_cost.Statement.{statement}
 use Rattle.residual.proofs.active_edge_cost.Tie as tie
@@ -34,26 +38,31 @@ is-block-requires-2 c κs = search needs
 
 returns : tie.Need-returns
 returns c =
-    let t = c .before in
-    let s = t .before .before in
-    let y = s .before .before in
-    let a = y .before .before .before .before .before .args in
+    let a = c .before .before .before .before .before .before .before .before .before .before .before .args in
     passed-over (lentLinks (now (a .ends)) (now (a .edges)) (now (a .blocks)) (a .free)) (poseAt (now (a .poses))) (a .k) (a .c)
-    (y .before .index-at .ensures) (y .index-at2 .ensures) (s .before .slot-at .ensures) (t .before .slot-at2 .ensures) (s .is-block .ensures) (t .is-block2 .ensures)
-    (c .if1 .taken)
+    (c .before .before .before .before .before .before .index-at .ensures) (c .before .before .before .before .before .index-at2 .ensures)
+    (c .before .before .before .before .slot-at .ensures) (c .before .before .slot-at2 .ensures) (c .before .before .before .is-block .ensures)
+    (c .before .is-block2 .ensures) (c .if1 .taken)
 
-edge-cost-requires : tie.Need-edge-cost-requires
-edge-cost-requires c κs = search needs
+linked-at-requires : tie.Need-linked-at-requires
+linked-at-requires c κs = search needs
+
+six-in-requires : tie.Need-six-in-requires
+six-in-requires c κs = search needs
+
+accumulate-edge-squared-cost-requires : tie.Need-accumulate-edge-squared-cost-requires
+accumulate-edge-squared-cost-requires c κs = search needs
 
 returns-2 : tie.Need-returns-2
 returns-2 c =
-    let t = c .before .before in
-    let s = t .before .before in
-    let y = s .before .before in
-    let a = y .before .before .before .before .before .args in
+    let a = c .before .before .before .before .before .before .before .before .before .before .before .before .before .before .args in
+    let known = residual-stowed (now (a .poses)) (now (a .known)) (a .count) _ _ _ (c .before .before .before .before .before .before .before .before .before .before .before .before .before .before .pre .1) (c .before .before .linked-at .ensures) (c .before .six-in .ensures) in
     counted (lentLinks (now (a .ends)) (now (a .edges)) (now (a .blocks)) (a .free)) (poseAt (now (a .poses))) (a .k) (a .c)
-    (y .before .index-at .ensures) (y .index-at2 .ensures) (s .before .slot-at .ensures) (t .before .slot-at2 .ensures) (s .is-block .ensures) (t .is-block2 .ensures)
-    (c .before .if1 .left) (c .edge-cost .ensures)
+    (c .before .before .before .before .before .before .before .before .before .index-at .ensures)
+    (c .before .before .before .before .before .before .before .before .index-at2 .ensures)
+    (c .before .before .before .before .before .before .before .slot-at .ensures) (c .before .before .before .before .before .slot-at2 .ensures)
+    (c .before .before .before .before .before .before .is-block .ensures) (c .before .before .before .before .is-block2 .ensures) (c .before .before .before .if1 .left)
+    (c .accumulate-edge-squared-cost .ensures ∙ ap (λ (r : Residual). pricedFrom (priced r (a .c))) known)
 
 pub active-edge-cost-spec : {M : Type 1} → statement M
 active-edge-cost-spec =
@@ -69,5 +78,7 @@ active-edge-cost-spec =
     slot-at-requires-2
     is-block-requires-2
     returns
-    edge-cost-requires
+    linked-at-requires
+    six-in-requires
+    accumulate-edge-squared-cost-requires
     returns-2)

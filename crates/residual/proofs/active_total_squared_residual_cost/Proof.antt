@@ -1,76 +1,36 @@
-use Prim.Native.Nat.{ℕ, _≤_, _-_}
-use mathlib.Core.Path.{_≡_}
-use mathlib.Core.List.{List}
-use native.Mathlib.Omega.{arith}
-use lib.Ieee.{Float, ofBits}
-use Rattle.numbers.specs.Notation.{num, ratio}
-use Rattle.numbers.specs.Walks.{each, done, only}
-use Rattle.numbers.specs.declared.Went.{Went}
-use Rattle.numbers.proofs.Walking.{each-none}
-use Rattle.graph.specs.Graph.{isActive}
-use Rattle.graph.specs.Lent.{poseAt, lentLinks}
-use Rattle.residual.specs.Costs.{priceAt, costEnds, costOf}
-use Rattle.residual.proofs.Costing.{cost-more, cost-stop, cost-end}
+use lib.ListN.{length-replicate}
+use lib.Ieee.{binary32, ofBits}
+use Rattle.residual.proofs.Stowing.{filled-based}
 use borrow.Author.Needs.{needs}
 use Rattle.residual.proofs.active_total_squared_residual_cost.Statement.{statement}
 use Rattle.residual.proofs.active_total_squared_residual_cost.Tie as tie
 
-abbrev steps : List Float → List ℕ → List Float → List ℕ → ℕ → ℕ → Float → Went × Float
-steps poses ends edges blocks free k =
-    only (isActive (lentLinks ends edges blocks free) k) (priceAt (lentLinks ends edges blocks free) (poseAt poses) k)
+slice-aggregate-fill-bases : tie.Need-slice-aggregate-fill-bases
+slice-aggregate-fill-bases c = search needs
 
-abbrev Inv-loop : tie.InvT-loop
-Inv-loop poses ends edges blocks free count c₀ k₀ c k = (k ≤ count) × (each (steps poses ends edges blocks free) k (num 0) ≡ done c)
+fill-bases-requires : tie.Need-fill-bases-requires
+fill-bases-requires c κs = search needs
 
-abbrev μ-loop : tie.MeasureT-loop
-μ-loop poses ends edges blocks free count c₀ k₀ c k = count - k
+slice-aggregate-cost-over : tie.Need-slice-aggregate-cost-over
+slice-aggregate-cost-over c = search needs
 
-loop-holds : tie.Need-loop-holds Inv-loop μ-loop
-unfolding ratio ofBits
-loop-holds c = (omega arith, each-none _ _)
+known-poses-requires : tie.Need-known-poses-requires
+known-poses-requires c κs = search needs
 
-active-edge-cost-requires : tie.Need-active-edge-cost-requires Inv-loop μ-loop
-active-edge-cost-requires c κs = search needs
+cost-over-requires : tie.Need-cost-over-requires
+cost-over-requires c κs =
+    filled-based _ _ (c .before .before .before .fill-bases .ensures) (c .known-poses .ensures) (length-replicate 2048 (ofBits binary32 0))
 
-enum-known-x : tie.Need-enum-known-x Inv-loop μ-loop
-enum-known-x c = search needs
-
-enum-known-why : tie.Need-enum-known-why Inv-loop μ-loop
-enum-known-why c = search needs
-
-returns : tie.Need-returns Inv-loop μ-loop
-unfolding costOf costEnds
-returns c =
-    let b = c .before .before .before in
-    cost-stop _ _ _ (b .before .before .loop .inv .1) _ (b .active-edge-cost .ensures) (c .before .why .given .1) (b .before .loop-test .taken)
-
-add-k : tie.Need-add-k Inv-loop μ-loop
-add-k c = search needs
-
-loop-less : tie.Need-loop-less Inv-loop μ-loop
-loop-less c = search needs
-
-loop-again : tie.Need-loop-again Inv-loop μ-loop
-loop-again c =
-    let b = c .before .before .before in
-    (omega arith, cost-more _ _ _ (b .before .before .loop .inv .1) (b .active-edge-cost .ensures) (c .before .x .given .1))
-
-returns-2 : tie.Need-returns-2 Inv-loop μ-loop
-unfolding costOf costEnds
-returns-2 c = cost-end _ _ _ _ (c .before .loop .inv .1) (omega arith)
+returns : tie.Need-returns
+returns c = c .cost-over .ensures
 
 pub active-total-squared-residual-cost-spec : {M : Type 1} → statement M
 active-total-squared-residual-cost-spec =
     tie.close
     (tie.spec
-    Inv-loop
-    μ-loop
-    loop-holds
-    active-edge-cost-requires
-    enum-known-x
-    enum-known-why
-    returns
-    add-k
-    loop-less
-    loop-again
-    returns-2)
+    slice-aggregate-fill-bases
+    fill-bases-requires
+    slice-aggregate-cost-over
+    known-poses-requires
+    cost-over-requires
+    returns)

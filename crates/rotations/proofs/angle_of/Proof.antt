@@ -1,9 +1,12 @@
-use lib.Ieee.{ofBits}
-use Rattle.numbers.specs.Notation.{ratio}
-use borrow.Author.Needs.{needs}
 use Rattle.rotations.specs.ExpLog.{angleOf}
+use Rattle.rotations.specs.LogParts.{angleFrom}
+use borrow.Author.Needs.{needs}
 use Rattle.rotations.proofs.angle_of.Statement.{statement}
 use Rattle.rotations.proofs.angle_of.Tie as tie
+use Rattle.rotations.proofs.angle_of.Reads as reads
+use Rattle.rotations.proofs.angle_of.Lts as lts
+use Rattle.rotations.proofs.angle_from.Reads as angle-from-reads
+use Rattle.rotations.proofs.half.Reads as half-reads
 
 half-requires : tie.Need-half-requires
 half-requires c κs = search needs
@@ -14,39 +17,13 @@ half-requires-2 c κs = search needs
 half-requires-3 : tie.Need-half-requires-3
 half-requires-3 c κs = search needs
 
-axis-of-requires : tie.Need-axis-of-requires
-axis-of-requires c κs = search needs
-
-vec-over-requires : tie.Need-vec-over-requires
-vec-over-requires c κs = search needs
-
-dot-of-requires : tie.Need-dot-of-requires
-dot-of-requires c κs = search needs
-
-arc-series-requires : tie.Need-arc-series-requires
-arc-series-requires c κs = search needs
-
-scaled-requires : tie.Need-scaled-requires
-scaled-requires c κs = search needs
-
-scaled-requires-2 : tie.Need-scaled-requires-2
-scaled-requires-2 c κs = search needs
+angle-from-requires : tie.Need-angle-from-requires
+angle-from-requires c κs = search needs
 
 returns : tie.Need-returns
-unfolding angleOf ratio ofBits
+unfolding angleOf angleFrom
 returns c = cc
 
 pub angle-of-spec : {M : Type 1} → statement M
 angle-of-spec =
-    tie.close
-    (tie.spec
-    half-requires
-    half-requires-2
-    half-requires-3
-    axis-of-requires
-    vec-over-requires
-    dot-of-requires
-    arc-series-requires
-    scaled-requires
-    scaled-requires-2
-    returns)
+    tie.close (tie.spec half-requires half-requires-2 half-requires-3 angle-from-requires returns)

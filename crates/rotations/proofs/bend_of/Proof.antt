@@ -17,11 +17,11 @@ large-bend-requires c κs = search needs
 
 returns : tie.Need-returns
 unfolding bend ratio ofBits
-returns c = taken _ (cc) (cc)
+returns c = taken _ (rw (← c .before .before .dot-of .ensures) (c .before .if1 .taken)) (rw (c .small-bend .ensures, c .before .before .dot-of .ensures))
 
 returns-2 : tie.Need-returns-2
 unfolding bend ratio ofBits
-returns-2 c = left _ (cc) (cc)
+returns-2 c = left _ (rw (← c .before .before .dot-of .ensures) (c .before .if1 .left)) (rw (c .large-bend .ensures, c .before .before .dot-of .ensures))
 
 pub bend-of-spec : {M : Type 1} → statement M
 bend-of-spec =

@@ -23,7 +23,15 @@ sum-of-requires-2 c κs = search needs
 
 returns : tie.Need-returns
 unfolding bent
-returns c = cc
+returns c =
+    rw (
+      c .sum-of2 .ensures,
+      c .before .scaled2 .ensures,
+      c .before .before .cross-of2 .ensures,
+      c .before .before .before .sum-of .ensures,
+      c .before .before .before .before .scaled .ensures,
+      c .before .before .before .before .before .cross-of .ensures,
+    )
 
 pub bent-by-spec : {M : Type 1} → statement M
 bent-by-spec =

@@ -1,3 +1,4 @@
+use mathlib.Core.Path.{refl, sym, _∙_}
 use Rattle.rotations.proofs.Steps.{turned-by, not-turned}
 use Rattle.rotations.specs.ExpLog.{expOf}
 use borrow.Author.Needs.{needs}
@@ -15,14 +16,17 @@ enum-told c = search needs
 
 returns : tie.Need-returns
 unfolding expOf
-returns c = not-turned _ (cc) (cc)
+returns c = not-turned _ (sym (c .before .before .turn-of .ensures) ∙ c .enum-told .given .1) refl
 
 moved-by-requires : tie.Need-moved-by-requires
 moved-by-requires c κs = search needs
 
 returns-2 : tie.Need-returns-2
 unfolding expOf
-returns-2 c = turned-by _ _ (c .before .before .q .given .0 .0) (cc) (cc)
+returns-2 c =
+    turned-by _ _ (c .before .before .q .given .0 .0)
+    (sym (c .before .before .before .before .turn-of .ensures) ∙ c .before .before .q .given .1)
+    (rw (c .moved-by .ensures))
 
 pub exp-spec : {M : Type 1} → statement M
 exp-spec =

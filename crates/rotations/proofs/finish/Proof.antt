@@ -26,7 +26,16 @@ narrow-requires-7 c κs = search needs
 
 returns : tie.Need-returns
 unfolding finished
-returns c = cc
+returns c =
+    rw (
+      c .narrow7 .ensures,
+      c .before .narrow6 .ensures,
+      c .before .before .narrow5 .ensures,
+      c .before .before .before .narrow4 .ensures,
+      c .before .before .before .before .narrow3 .ensures,
+      c .before .before .before .before .before .narrow2 .ensures,
+      c .before .before .before .before .before .before .narrow .ensures,
+    )
 
 pub finish-spec : {M : Type 1} → statement M
 finish-spec =

@@ -14,7 +14,7 @@ sqrt64-requires c κs = search needs
 
 returns : tie.Need-returns
 unfolding halved
-returns c = cc
+returns c = rw (c .before .sqrt64 .ensures, c .before .before .before .dot-of .ensures, c .before .before .before .before .axis-of .ensures)
 
 pub half-spec : {M : Type 1} → statement M
 half-spec = tie.close (tie.spec axis-of-requires dot-of-requires sqrt64-requires returns)

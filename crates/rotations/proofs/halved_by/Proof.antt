@@ -10,7 +10,7 @@ sqrt32-requires c κs = search needs
 
 returns : tie.Need-returns
 unfolding halvedBy ratio ofBits
-returns c = cc
+returns c = rw (c .sqrt32 .ensures)
 
 pub halved-by-spec : {M : Type 1} → statement M
 halved-by-spec = tie.close (tie.spec sqrt32-requires returns)

@@ -16,7 +16,7 @@ dot-of-requires c κs = search needs
 
 returns : tie.Need-returns
 unfolding largeBend ratio ofBits
-returns c = cc
+returns c = rw (c .before .dot-of .ensures, c .before .before .axis-of .ensures, c .before .before .before .sqrt64 .ensures)
 
 pub large-bend-spec : {M : Type 1} → statement M
 large-bend-spec = tie.close (tie.spec sqrt64-requires axis-of-requires dot-of-requires returns)

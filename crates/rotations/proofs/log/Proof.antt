@@ -11,7 +11,7 @@ narrow-twist-requires c κs = search needs
 
 returns : tie.Need-returns
 unfolding logOf
-returns c = cc
+returns c = rw (c .narrow-twist .ensures, c .before .log-wide .ensures)
 
 pub log-spec : {M : Type 1} → statement M
 log-spec = tie.close (tie.spec log-wide-requires narrow-twist-requires returns)

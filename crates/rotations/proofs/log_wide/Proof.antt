@@ -1,36 +1,24 @@
-use lib.Ieee.{ofBits}
-use Rattle.numbers.specs.Notation.{ratio}
+use Rattle.rotations.proofs.LogParts.{log-parts}
 use borrow.Author.Needs.{needs}
-use Rattle.rotations.specs.ExpLog.{logWide}
 use Rattle.rotations.proofs.log_wide.Statement.{statement}
 use Rattle.rotations.proofs.log_wide.Tie as tie
+use Rattle.rotations.proofs.log_wide.Reads as reads
+use Rattle.rotations.proofs.log_wide.Lts as lts
+use Rattle.rotations.proofs.log_at.Reads as log-at-reads
+use Rattle.rotations.proofs.log_turn.Reads as log-turn-reads
+use Rattle.rotations.proofs.widened.Reads as widened-reads
 
 widened-requires : tie.Need-widened-requires
 widened-requires c κs = search needs
 
-upright-of-requires : tie.Need-upright-of-requires
-upright-of-requires c κs = search needs
+log-turn-requires : tie.Need-log-turn-requires
+log-turn-requires c κs = search needs
 
-angle-of-requires : tie.Need-angle-of-requires
-angle-of-requires c κs = search needs
-
-unbend-of-requires : tie.Need-unbend-of-requires
-unbend-of-requires c κs = search needs
-
-bent-by-requires : tie.Need-bent-by-requires
-bent-by-requires c κs = search needs
+log-at-requires : tie.Need-log-at-requires
+log-at-requires c κs = search needs
 
 returns : tie.Need-returns
-unfolding logWide ratio ofBits
-returns c = cc
+returns c = rw (c .log-at .ensures, c .before .log-turn .ensures, c .before .before .widened .ensures) (log-parts _)
 
 pub log-wide-spec : {M : Type 1} → statement M
-log-wide-spec =
-    tie.close
-    (tie.spec
-    widened-requires
-    upright-of-requires
-    angle-of-requires
-    unbend-of-requires
-    bent-by-requires
-    returns)
+log-wide-spec = tie.close (tie.spec widened-requires log-turn-requires log-at-requires returns)

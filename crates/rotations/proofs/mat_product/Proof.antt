@@ -14,7 +14,7 @@ turn-vec-requires-3 c κs = search needs
 
 returns : tie.Need-returns
 unfolding matProduct
-returns c = cc
+returns c = rw (c .turn-vec3 .ensures, c .before .turn-vec2 .ensures, c .before .before .turn-vec .ensures)
 
 pub mat-product-spec : {M : Type 1} → statement M
 mat-product-spec =

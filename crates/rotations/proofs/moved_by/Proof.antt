@@ -14,7 +14,7 @@ finish-requires c κs = search needs
 
 returns : tie.Need-returns
 unfolding movedBy
-returns c = cc
+returns c = rw (c .finish .ensures, c .before .bent-by .ensures, c .before .before .bend-of .ensures)
 
 pub moved-by-spec : {M : Type 1} → statement M
 moved-by-spec = tie.close (tie.spec bend-of-requires bent-by-requires finish-requires returns)

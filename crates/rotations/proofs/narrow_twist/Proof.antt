@@ -23,7 +23,15 @@ narrow-requires-6 c κs = search needs
 
 returns : tie.Need-returns
 unfolding narrowedTwist
-returns c = cc
+returns c =
+    rw (
+      c .narrow6 .ensures,
+      c .before .narrow5 .ensures,
+      c .before .before .narrow4 .ensures,
+      c .before .before .before .narrow3 .ensures,
+      c .before .before .before .before .narrow2 .ensures,
+      c .before .before .before .before .before .narrow .ensures,
+    )
 
 pub narrow-twist-spec : {M : Type 1} → statement M
 narrow-twist-spec =

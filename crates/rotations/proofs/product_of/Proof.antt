@@ -26,7 +26,16 @@ finish-requires c κs = search needs
 
 returns : tie.Need-returns
 unfolding product
-returns c = cc
+returns c =
+    rw (
+      c .finish .ensures,
+      c .before .sum-of .ensures,
+      c .before .before .turn-vec .ensures,
+      c .before .before .before .quat-product .ensures,
+      c .before .before .before .before .matrix-of .ensures,
+      c .before .before .before .before .before .widened2 .ensures,
+      c .before .before .before .before .before .before .widened .ensures,
+    )
 
 pub product-of-spec : {M : Type 1} → statement M
 product-of-spec =

@@ -16,7 +16,7 @@ dot-of-requires c κs = search needs
 
 returns : tie.Need-returns
 unfolding squared ratio ofBits
-returns c = cc
+returns c = rw (c .dot-of .ensures, c .before .before .scaled .ensures, c .before .before .before .before .axis-of .ensures)
 
 pub square-spec : {M : Type 1} → statement M
 square-spec = tie.close (tie.spec axis-of-requires scaled-requires dot-of-requires returns)

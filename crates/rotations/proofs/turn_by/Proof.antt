@@ -25,7 +25,15 @@ seven-times-requires c κs = search needs
 
 returns : tie.Need-returns
 unfolding turnBy ratio ofBits
-returns c = cc
+returns c =
+    rw (
+      c .seven-times .ensures,
+      c .before .cosine-series .ensures,
+      c .before .before .scaled .ensures,
+      c .before .before .before .sine-series .ensures,
+      c .before .before .before .before .dot-of .ensures,
+      c .before .before .before .before .before .vec-over .ensures,
+    )
 
 pub turn-by-spec : {M : Type 1} → statement M
 turn-by-spec =

@@ -11,7 +11,7 @@ dot-of-requires c κs = search needs
 
 returns : tie.Need-returns
 unfolding unbend ratio ofBits series
-returns c = taken _ (cc) (cc)
+returns c = taken _ (rw (← c .before .dot-of .ensures) (c .if1 .taken)) (rw (c .before .dot-of .ensures))
 
 axis-of-requires : tie.Need-axis-of-requires
 axis-of-requires c κs = search needs
@@ -27,7 +27,15 @@ sqrt64-requires-2 c κs = search needs
 
 returns-2 : tie.Need-returns-2
 unfolding unbend ratio ofBits
-returns-2 c = left _ (cc) (cc)
+returns-2 c =
+    left _ (rw (← c .before .before .before .before .before .before .dot-of .ensures) (c .before .before .before .before .before .if1 .left))
+    (rw (
+      c .sqrt642 .ensures,
+      c .before .dot-of2 .ensures,
+      c .before .before .before .sqrt64 .ensures,
+      c .before .before .before .before .axis-of .ensures,
+      c .before .before .before .before .before .before .dot-of .ensures,
+    ))
 
 pub unbend-of-spec : {M : Type 1} → statement M
 unbend-of-spec =

@@ -26,7 +26,16 @@ widen-requires-7 c κs = search needs
 
 returns : tie.Need-returns
 unfolding wide
-returns c = cc
+returns c =
+    rw (
+      c .widen7 .ensures,
+      c .before .widen6 .ensures,
+      c .before .before .widen5 .ensures,
+      c .before .before .before .widen4 .ensures,
+      c .before .before .before .before .widen3 .ensures,
+      c .before .before .before .before .before .widen2 .ensures,
+      c .before .before .before .before .before .before .widen .ensures,
+    )
 
 pub widened-spec : {M : Type 1} → statement M
 widened-spec =

@@ -1,0 +1,60 @@
+use Rattle.assembly.proofs.Knowing.{ready-more, ready-all}
+use Rattle.assembly.specs.Known.{Ready}
+use Rattle.graph.specs.Lent.{slotIn}
+use native.Mathlib.Omega.{arith}
+use mathlib.Core.Path.{sym, _∙_}
+use Prim.Native.Nat.{_≤_, _-_}
+use borrow.Author.Needs.{needs}
+use Rattle.assembly.proofs.fill_free.Statement.{statement}
+use Rattle.assembly.proofs.fill_free.Tie as tie
+use Rattle.assembly.proofs.fill_free.Reads as reads
+use Rattle.assembly.proofs.fill_free.Lts as lts
+use Rattle.assembly.proofs.fill_pose.Reads as fill-pose-reads
+use Rattle.graph.proofs.slot_at.Reads as slot-at-reads
+
+abbrev Inv-loop : tie.InvT-loop
+Inv-loop known₀ m probing poses blocks free x₀ known x = (x ≤ 256) × Ready m poses (slotIn blocks free) known x
+
+abbrev μ-loop : tie.MeasureT-loop
+μ-loop known₀ m probing poses blocks free x₀ known x = 256 - x
+
+loop-holds : tie.Need-loop-holds Inv-loop μ-loop
+loop-holds c = (omega arith, c .before .before .pre .1)
+
+slot-at-requires : tie.Need-slot-at-requires Inv-loop μ-loop
+slot-at-requires c κs = search needs
+
+fill-pose-requires : tie.Need-fill-pose-requires Inv-loop μ-loop
+fill-pose-requires c κs =
+    (c .before .before .loop-test .taken, c .before .before .before .before .before .before .pre .0, c .before .before .before .loop .inv .1 .len, c .before .before .before .loop .inv .1 .bases)
+
+add-x : tie.Need-add-x Inv-loop μ-loop
+add-x c = search needs
+
+loop-less : tie.Need-loop-less Inv-loop μ-loop
+loop-less c = search needs
+
+loop-again : tie.Need-loop-again Inv-loop μ-loop
+loop-again c =
+    (omega arith, ready-more _ _ _ _ (c .before .before .before .before .before .before .loop .inv .1) _ (c .before .before .before .before .slot-at .ensures) (c .before .before .fill-pose .ensures))
+
+same-length : tie.Need-same-length Inv-loop μ-loop
+same-length c = c .before .loop .inv .1 .len ∙ sym (c .before .before .before .before .pre .1 .len)
+
+returns : tie.Need-returns Inv-loop μ-loop
+returns c = ready-all _ _ _ _ (omega arith) (c .before .loop .inv .1)
+
+pub fill-free-spec : {M : Type 1} → statement M
+fill-free-spec =
+    tie.close
+    (tie.spec
+    Inv-loop
+    μ-loop
+    loop-holds
+    slot-at-requires
+    fill-pose-requires
+    add-x
+    loop-less
+    loop-again
+    same-length
+    returns)

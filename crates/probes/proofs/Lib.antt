@@ -1,0 +1,5 @@
+pub mod FiniteParts
+pub mod Stepping
+pub mod SharedSe3
+pub mod SharedGravity
+pub mod Shared

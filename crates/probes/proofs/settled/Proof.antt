@@ -1,0 +1,21 @@
+use Rattle.probes.specs.Stances.{settledBy}
+use borrow.Author.Needs.{needs}
+use Rattle.probes.proofs.settled.Statement.{statement}
+use Rattle.probes.proofs.settled.Tie as tie
+
+quat-of-matrix-requires : tie.Need-quat-of-matrix-requires
+quat-of-matrix-requires c κs = search needs
+
+again-requires : tie.Need-again-requires
+again-requires c κs = search needs
+
+swing-of-requires : tie.Need-swing-of-requires
+swing-of-requires c κs = search needs
+
+returns : tie.Need-returns
+unfolding settledBy
+returns c = rw (c .swing-of .ensures, c .before .again .ensures, c .before .before .quat-of-matrix .ensures)
+
+pub settled-spec : {M : Type 1} → statement M
+settled-spec =
+    tie.close (tie.spec quat-of-matrix-requires again-requires swing-of-requires returns)

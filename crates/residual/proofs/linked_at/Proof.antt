@@ -1,0 +1,24 @@
+use mathlib.Core.Path.{refl}
+use borrow.Author.Needs.{needs}
+use Rattle.residual.proofs.linked_at.Statement.{statement}
+use Rattle.residual.proofs.linked_at.Tie as tie
+
+base-at-requires : tie.Need-base-at-requires
+base-at-requires c κs = search needs
+
+base-at-requires-2 : tie.Need-base-at-requires-2
+base-at-requires-2 c κs = search needs
+
+edge-at-requires : tie.Need-edge-at-requires
+edge-at-requires c κs = search needs
+
+linked-of-requires : tie.Need-linked-of-requires
+linked-of-requires c κs = search needs
+
+returns : tie.Need-returns
+returns c = rw (c .linked-of .ensures, c .before .before .base-at2 .ensures, c .before .before .before .base-at .ensures, c .before .edge-at .ensures)
+
+pub linked-at-spec : {M : Type 1} → statement M
+linked-at-spec =
+    tie.close
+    (tie.spec base-at-requires base-at-requires-2 edge-at-requires linked-of-requires returns)
