@@ -270,6 +270,7 @@ impl Both for Whole<'_> {
 
 #[cfg(test)]
 mod tests {
+    use std::cell::Cell;
     use std::thread::sleep;
 
     use super::*;
@@ -288,9 +289,13 @@ mod tests {
     }
 
     #[test]
-    fn sample_has_no_more_calls_than_it_takes() {
-        let wait: fn(&Duration) = |time| sleep(*time);
-        assert_eq!(Sample::new(&LEAST, wait).calls, 1);
-        assert!(Sample::new(&(LEAST / 4), wait).calls <= 4);
+    fn calls_of_a_sample_double_until_they_last() {
+        let last_is_long: fn(&Cell<u32>) = |count| {
+            count.set(count.get() + 1);
+            if count.get() == 1 + 2 + 4 {
+                sleep(LEAST);
+            }
+        };
+        assert_eq!(Sample::new(&Cell::new(0), last_is_long).calls, 4);
     }
 }

@@ -44,7 +44,8 @@ module _ (n : ℕ) (t : ℕ → Bool) (at : ℕ → ℕ) (v : ℕ → Float) (w 
       record {
         as-long = s .as-long;
         places = λ k l q.
-            s .places k l q ∙ ap (λ (b : Bool). if-then b (sums k) (getD w (at k) nan)) (same-below k m (λ i. absurd (let z : _≡_ {A = Bool} true false = sym q ∙ ap t i ∙ e in let u : _≡_ {A = ℕ} 0 1 = cc in omega arith)));
+            s .places k l q ∙ ap (λ (b : Bool). if-then b (sums k) (getD w (at k) nan))
+            (same-below k m (λ i. absurd (let z : _≡_ {A = Bool} true false = sym q ∙ ap t i ∙ e in let u : _≡_ {A = ℕ} 0 1 = cc in omega arith)));
         others = s .others;
       }
 
@@ -76,7 +77,8 @@ module _ (n : ℕ) (t : ℕ → Bool) (at : ℕ → ℕ) (v : ℕ → Float) (w 
       now e = ap (λ x. x ⊞ v m) (s .places m l e ∙ ap (λ (b : Bool). if-then b (sums m) (getD w (at m) nan)) (le-ltb m m (omega arith)))
 
       go : (b : Bool) → t m ≡ b
-          → (only b (λ y. addTo y (at m) (v m)) y .0 ≡ told (not b || finite (sums m))) × ((not b || finite (sums m)) ≡ true → Sofar (suc m) (only b (λ y. addTo y (at m) (v m)) y .1))
+          → (only b (λ y. addTo y (at m) (v m)) y .0 ≡ told (not b || finite (sums m)))
+          × ((not b || finite (sums m)) ≡ true → Sofar (suc m) (only b (λ y. addTo y (at m) (v m)) y .1))
       go true e = rw (now e) (refl, λ _. stored m y l e s)
       go false e = (refl, λ _. passed m y e s)
 

@@ -61,7 +61,8 @@ module _ (n : ℕ) where
   slope-in i l = omega arith
 
   -- what holds of all numbers holds with one more put among them
-  stored : (P : Float → Type 0) (y : List Float) (p : ℕ) (v : Float) → p < length y → P v → ((q : ℕ) → q < need n → P (getD y q nan)) → (q : ℕ) → q < need n → P (getD (set y p v) q nan)
+  stored : (P : Float → Type 0) (y : List Float) (p : ℕ) (v : Float) → p < length y → P v → ((q : ℕ) → q < need n → P (getD y q nan))
+      → (q : ℕ) → q < need n → P (getD (set y p v) q nan)
   stored P y p v b h s q l = at (eqb q p) (eqb-true q p) (eqb-false q p)
     where
       at : (t : Bool) → (t ≡ true → q ≡ p) → (t ≡ false → q ≡ p → ⊥) → P (getD (set y p v) q nan)
@@ -96,7 +97,8 @@ module _ (n : ℕ) where
     pub edges-finite : (y : List Float) → assembledEnds m n l pose w ≡ done y → Finite n y
     edges-finite y e =
         subst (Over (Finite n) Any) e
-        (edges-over n (Finite n) Any (λ _ _. tt) (λ y i j v h b. added y (j * n + i) v (entry-in i j h b)) (λ y i v b. added y (n * n + n + i) v (slope-in i b)) m l pose w f (start w))
+        (edges-over n (Finite n) Any (λ _ _. tt) (λ y i j v h b. added y (j * n + i) v (entry-in i j h b))
+        (λ y i v b. added y (n * n + n + i) v (slope-in i b)) m l pose w f (start w))
 
     pub assembled-finite : (y : List Float) → assembledOf m n l pose w ≡ (assembled.Done, y) → Finite n y
     unfolding assembledOf if-then

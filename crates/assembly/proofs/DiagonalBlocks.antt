@@ -90,7 +90,8 @@ module _ (n dof b : ℕ) (j : List (List Float)) (w : List Float) where
 
       apart : (i k : ℕ) → i < dof * dof → k < dof * dof → test i ≡ true → test k ≡ true → place i ≡ place k → i ≡ k
       apart i k li lk _ _ e =
-          let p = one-place n (b * dof + i / dof) (b * dof + i % dof) (b * dof + k / dof) (b * dof + k % dof) (let r = row-in i li in omega arith) (let r = row-in k lk in omega arith) e in
+          let p = one-place n (b * dof + i / dof) (b * dof + i % dof) (b * dof + k / dof) (b * dof + k % dof) (let r = row-in i li in omega arith)
+          (let r = row-in k lk in omega arith) e in
           let r : i / dof ≡ k / dof = omega (arith, p .0) in
           let c : i % dof ≡ k % dof = omega (arith, p .1) in
           sym (div-add-mod' i dof) ∙ ap₂ (λ x y. x * dof + y) r c ∙ div-add-mod' k dof
@@ -105,5 +106,6 @@ module _ (n dof b : ℕ) (j : List (List Float)) (w : List Float) where
               let q = s .places (r * dof + c) m (rw (digits-div r o, digits-mod r o) t) in
               rw (lt-ltb (r * dof + c) (dof * dof) m, digits-div r o, digits-mod r o) at q
 
-      pub block-added : (blockOf keeps n dof b b j j w .0 ≡ told (every asked (dof * dof))) × (every asked (dof * dof) ≡ true → Added (blockOf keeps n dof b b j j w .1))
+      pub block-added : (blockOf keeps n dof b b j j w .0 ≡ told (every asked (dof * dof)))
+          × (every asked (dof * dof) ≡ true → Added (blockOf keeps n dof b b j j w .1))
       block-added = let a = all-added (dof * dof) test place value w there apart in rw as-row (a .0, λ e. added _ (a .1 e))

@@ -18,7 +18,7 @@ use Rattle.numbers.specs.declared.Went.{Went}
 use Rattle.numbers.specs.declared.Went.the-variants.{Well, Bad}
 use Rattle.rotations.specs.declared.Twist.{Twist}
 use Rattle.rotations.specs.declared.Pose.{Pose}
-use Rattle.graph.specs.Graph.{Links, isBlock, isActive}
+use Rattle.graph.specs.Graph.{Links, isBlock}
 use Rattle.graph.specs.Lent.{dofOf, poseAt, edgeAt, endA, endB, none, slotIn, lentLinks}
 use Rattle.graph.specs.declared.Edge.{Edge}
 use Rattle.graph.specs.declared.Manifold.{Manifold}
@@ -32,7 +32,8 @@ use Rattle.residual.specs.declared.Linked.the-variants as linked
 use Rattle.solve.specs.Work.{need}
 use Rattle.assembly.specs.Jacobians.{codeOf, wentOf}
 use Rattle.assembly.specs.FromParts.{jacobianIn, withLink, oneIn, bothIn}
-use Rattle.assembly.specs.Assembly.{lowerTriangle, endOf, crossOf, withJacobian, endsOf, edgeOf, addAt, cleared, assembledEnds, assembledFrom, assembledOf}
+use Rattle.assembly.specs.Assembly.{lowerTriangle, endOf, crossOf, withJacobian, endsOf, edgeOf, addAt, edgeStep}
+use Rattle.assembly.specs.Assembly.{cleared, assembledEnds, assembledFrom, assembledOf}
 use Rattle.residual.specs.declared.EdgeEndpoint.{EdgeEndpoint}
 use Rattle.residual.specs.declared.EdgeEndpoint.the-variants.{A, B}
 use Rattle.assembly.specs.declared.Assembled.{Assembled}
@@ -114,15 +115,12 @@ idle m n a b e (Block i) Fixed w = refl
 idle m n a b e (Block i) (Block k) w = refl
 
 module _ (m : Manifold) (n : ℕ) (poses : List Float) (ends : List ℕ) (edges : List Float) (blocks : List ℕ) (free k : ℕ) (w : List Float) where
-  pub edge-added : {x y : ℕ} {sa sb : Slot} {a b : Pose} {e : Edge} {s : Went × List Float}
-      → x ≡ endA ends k → y ≡ endB ends k → sa ≡ slotIn blocks free x → sb ≡ slotIn blocks free y → a ≡ poseAt poses x → b ≡ poseAt poses y
-      → e ≡ edgeAt edges k
-      → s ≡ edgeOf lowerTriangle m n a b e sa sb w
-      → s ≡ only (isActive (lentLinks ends edges blocks free) k) (addAt lowerTriangle m n (lentLinks ends edges blocks free) (poseAt poses) k) w
+  pub edge-added : {x y : ℕ} {sa sb : Slot} {s : Went × List Float}
+      → x ≡ endA ends k → y ≡ endB ends k → sa ≡ slotIn blocks free x → sb ≡ slotIn blocks free y
+      → s ≡ edgeOf lowerTriangle m n (poseAt poses x) (poseAt poses y) (edgeAt edges k) sa sb w
+      → s ≡ edgeStep lowerTriangle m n (lentLinks ends edges blocks free) (poseAt poses) k w
   unfolding addAt
-  edge-added {s = s} p q f g h i j t =
-      let u : s ≡ edgeOf lowerTriangle m n (poseAt poses (endA ends k)) (poseAt poses (endB ends k)) (edgeAt edges k) (slotIn blocks free (endA ends k)) (slotIn blocks free (endB ends k)) w = cc in
-      u ∙ idle m n _ _ _ _ _ w
+  edge-added p q f g t = t ∙ rw (f, g, p, q) (idle m n _ _ _ _ _ w)
 
 -- a block below the free count has room
 pub slot-fits : (m : Manifold) (blocks : List ℕ) (free x : ℕ) {n : ℕ} {s : Slot} → n ≡ dofOf m * free → s ≡ slotIn blocks free x → (b : ℕ) → s ≡ Block b
@@ -142,9 +140,6 @@ slot-fits m blocks free x {n} {s} size i b e = go (ltb (getD blocks x none) free
 pub answered : {S : Type 0} {x y : Went} {t : S} {z : Went × S} → (x, t) ≡ z → x ≡ y → z ≡ (y, t)
 answered {t = t} e f = sym e ∙ ap (λ (x : Went). (x, t)) f
 
-abbrev pub edgeStep : Manifold → ℕ → Links Edge → (ℕ → Pose) → ℕ → List Float → Went × List Float
-edgeStep m n l pose k = only (isActive l k) (addAt lowerTriangle m n l pose k)
-
 -- so many unknowns can be counted, and the work has room for them
 pub unknowns : (d free : ℕ) → d ≤ 6 → d * free ≤ 6 * free
 unknowns d free h = mul-le-mul-right free h
@@ -163,10 +158,12 @@ module _ (m : Manifold) (n : ℕ) (l : Links Edge) (pose : ℕ → Pose) (w : Li
   fits h = le-ltb (length w) (need n) (has-space (need n) (length w) room h)
 
   pub assembled-by : not r ≡ false → {w₀ : List Float} → w₀ ≡ cleared n w → {z : Assembled × List Float}
-      → z ≡ assembledFrom (each (edgeStep m n l pose) (l .edges) w₀)
+      → z ≡ assembledFrom (each (edgeStep lowerTriangle m n l pose) (l .edges) w₀)
       → z ≡ assembledOf m n l pose w
   unfolding assembledOf assembledEnds
-  assembled-by h clear q = left (assembled.Short, w) (fits h) (q ∙ ap (λ (w₀ : List Float). assembledFrom (each (edgeStep m n l pose) (l .edges) w₀)) clear)
+  assembled-by h clear q =
+      left (assembled.Short, w) (fits h)
+      (q ∙ ap (λ (w₀ : List Float). assembledFrom (each (edgeStep lowerTriangle m n l pose) (l .edges) w₀)) clear)
 
 -- the walk over the edges
 module _ (f : ℕ → List Float → Went × List Float) (w₀ : List Float) (k n : ℕ) {s : List Float} (sofar : each f k w₀ ≡ done s) where

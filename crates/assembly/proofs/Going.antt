@@ -2,8 +2,7 @@
 use mathlib.Core.Path.{_≡_, refl, sym, ap, _∙_}
 use mathlib.Core.List.{List}
 use mathlib.Core.Bool.{Bool, true, false}
-use Prim.Native.Nat.{ℕ, _+_, _≤_, _<_}
-use native.Mathlib.Omega.{arith}
+use Prim.Native.Nat.{ℕ, _+_, _<_}
 use lib.Ieee.{Float}
 use Rattle.numbers.specs.Notation.{if-then}
 use Rattle.numbers.specs.Walks.{Ended, done, each}
@@ -15,19 +14,12 @@ use Rattle.numbers.specs.declared.Went.the-variants.{Well}
 use Rattle.numbers.specs.declared.Went.the-variants as went
 use Rattle.rotations.specs.declared.Twist.{Twist}
 use Rattle.pose_conversion.specs.declared.Converted.{Converted}
-use Rattle.graph.specs.Lent.{dofOf}
-use Rattle.graph.specs.declared.Manifold.{Manifold}
-use Rattle.graph.specs.declared.Manifold.the-variants.{Se3, Gravity}
 use Rattle.residual.specs.declared.Link.{Link}
 use Rattle.residual.specs.declared.Residual.{Residual}
 use Rattle.residual.specs.declared.Residual.the-variants.{Six, Failed}
 use Rattle.assembly.specs.Jacobians.{withSix, putSix, zeros, codeOf, wentOf}
 use Rattle.assembly.specs.FromParts.{columnIn, columnStepIn, jacobianIn}
 use Rattle.residual.specs.declared.EdgeEndpoint.{EdgeEndpoint}
-
-pub dof-small : (m : Manifold) → dofOf m ≤ 6
-dof-small Se3 = omega arith
-dof-small (Gravity g) = omega arith
 
 -- ---- a Jacobian, column by column
 module _ (dof : ℕ) (l : Link) (end : EdgeEndpoint) (probe : ℕ → Bool → Converted) where

@@ -1,5 +1,5 @@
 -- The cells fill up pose by pose, and an edge that reads them adds what the definitions say. Assumes nothing.
-use Prim.Native.Nat.{ℕ, _+_, _*_, _/_, _<_, _≤_}
+use Prim.Native.Nat.{ℕ, _+_, _*_, _<_, _≤_}
 use mathlib.Core.Path.{_≡_, refl, sym, ap, subst, _∙_}
 use mathlib.Core.Logic.{_⊎_, inl, inr}
 use mathlib.Core.Bool.{Bool, true, false}
@@ -17,6 +17,7 @@ use Rattle.pose_conversion.specs.Conversions.{checkedTransform}
 use Rattle.pose_conversion.specs.declared.Converted.{Converted}
 use Rattle.graph.specs.Graph.{isBlock}
 use Rattle.graph.specs.Lent.{dofOf, poseAt, slotIn, none}
+use Rattle.graph.proofs.Answers.{dof-most}
 use Rattle.graph.specs.declared.Edge.{Edge}
 use Rattle.graph.specs.declared.Manifold.{Manifold}
 use Rattle.graph.specs.declared.Manifold.the-variants.{Se3, Gravity}
@@ -35,14 +36,13 @@ use Rattle.residual.specs.declared.Linked.{Linked}
 use Rattle.assembly.specs.Assembly.{lowerTriangle, oneOf, bothOf}
 use Rattle.assembly.specs.FromParts.{oneIn, bothIn}
 use Rattle.assembly.specs.Known.{spot, stowedProbes, Axis, Probed, Posed, Ready, FreePose}
-use Rattle.residual.specs.declared.EdgeEndpoint.the-variants.{A, B}
-use Rattle.assembly.proofs.Parting.{one-linked, both-linked}
+use Rattle.residual.specs.declared.EdgeEndpoint.{EdgeEndpoint}
+use Rattle.assembly.proofs.Parting.{endPose, one-linked, both-linked}
 use Rattle.assembly.proofs.Edges.{slot-fits}
-use Rattle.assembly.proofs.Going.{dof-small}
 
 -- ---- filling
 module _ (probe : ℕ → Bool → Converted) (x : ℕ) where
-  pub axis-filled : (c : ℕ) {l l₁ l₂ : List Float} {y z : Converted}
+  axis-filled : (c : ℕ) {l l₁ l₂ : List Float} {y z : Converted}
       → Stows l l₁ (256 + (x * 12 + c)) y → Stows l₁ l₂ (256 + (x * 12 + (6 + c))) z → y ≡ probe c true → z ≡ probe c false → Axis probe x c l l₂
   axis-filled c {l} {l₁} {l₂} h g e f =
       record {
@@ -79,7 +79,7 @@ module _ (probe : ℕ → Bool → Converted) (x : ℕ) where
       behind k (inr q) e = omega arith
 
   -- of another function that has the same probes
-  pub probed-as : (other : ℕ → Bool → Converted) (i : ℕ) {l l' : List Float} → ((c : ℕ) → c < i → (ahead : Bool) → probe c ahead ≡ other c ahead)
+  probed-as : (other : ℕ → Bool → Converted) (i : ℕ) {l l' : List Float} → ((c : ℕ) → c < i → (ahead : Bool) → probe c ahead ≡ other c ahead)
       → Probed probe x i l l' → Probed other x i l l'
   probed-as other i same h = record { len = h .len; there = λ c q ahead. h .there c q ahead ∙ same c q ahead; rest = h .rest }
 
@@ -129,12 +129,6 @@ pub dof-large : (m : Manifold) → 4 ≤ dofOf m
 dof-large Se3 = omega arith
 dof-large (Gravity g) = omega arith
 
-dof-most : (m : Manifold) (c : ℕ) → c < dofOf m → c < 6
-dof-most m c h = go m h
-  where
-    go : (m : Manifold) → c < dofOf m → c < 6
-    go m h = omega (arith, dof-small m)
-
 -- one pose more
 module _ (m : Manifold) (poses : List Float) (slot : ℕ → Slot) (i : ℕ) {l : List Float} (h : Ready m poses slot l i) where
   -- the probes of pose x are known, if it is free
@@ -158,7 +152,7 @@ module _ (m : Manifold) (poses : List Float) (slot : ℕ → Slot) (i : ℕ) {l 
         len = g .len ∙ h .len;
         bases = λ x q. g .rest x (inl (omega (arith, known-small (length poses)))) ∙ h .bases x q;
         probes = below-more (known l') i
-            (λ x q b c d ahead. g .rest (spot x c ahead) (inl (inside x c ahead q (dof-most m c d))) ∙ h .probes x q b c d ahead)
+            (λ x q b c d ahead. g .rest (spot x c ahead) (inl (inside x c ahead q (omega (arith, dof-most m)))) ∙ h .probes x q b c d ahead)
             (λ b. g .there);
       }
     where
@@ -170,7 +164,7 @@ module _ (m : Manifold) (poses : List Float) (slot : ℕ → Slot) (i : ℕ) {l 
   ready-more Fixed e g = subst (λ (l : List Float). Ready m poses slot l (i + 1)) (sym g) (ready-fixed (sym e))
   ready-more (Block k) e g = ready-free g
 
-pub ready-none : (m : Manifold) (poses : List Float) (slot : ℕ → Slot) (l : List Float) → length l ≡ 26624 → Based poses l (knownPoses (length poses))
+ready-none : (m : Manifold) (poses : List Float) (slot : ℕ → Slot) (l : List Float) → length l ≡ 26624 → Based poses l (knownPoses (length poses))
     → Ready m poses slot l 0
 ready-none m poses slot l h b = record { len = h; bases = b; probes = λ x q. absurd (omega arith) }
 
@@ -219,17 +213,14 @@ first-cell l x = ap (stowedIn l) (omega arith)
 -- ---- an edge
 module _ (m : Manifold) (n : ℕ) (poses l : List Float) (x y : ℕ) (e : Edge) (w : List Float)
     {z : Linked} (h : z ≡ linkedOf (checkedTransform (poseAt poses x)) (checkedTransform (poseAt poses y)) e) where
-  pub one-known-a : {i : ℕ} {s : Went × List Float} → FreePose m n poses l x i → s ≡ oneIn (dofOf m) n (stowedProbes l x) z A i w
-      → s ≡ oneOf lowerTriangle m n (poseAt poses x) (poseAt poses y) e A i w
-  one-known-a {i} f g =
-      g ∙ ap (λ (z : Linked). oneIn (dofOf m) n (stowedProbes l x) z A i w) h
-      ∙ one-linked m n (poseAt poses x) (poseAt poses y) e w A i (stowedProbes l x) (f .probes)
-
-  pub one-known-b : {i : ℕ} {s : Went × List Float} → FreePose m n poses l y i → s ≡ oneIn (dofOf m) n (stowedProbes l y) z B i w
-      → s ≡ oneOf lowerTriangle m n (poseAt poses x) (poseAt poses y) e B i w
-  one-known-b {i} f g =
-      g ∙ ap (λ (z : Linked). oneIn (dofOf m) n (stowedProbes l y) z B i w) h
-      ∙ one-linked m n (poseAt poses x) (poseAt poses y) e w B i (stowedProbes l y) (f .probes)
+  -- pose p at the end that is free
+  pub one-known : (end : EdgeEndpoint) (p : ℕ) {i : ℕ} {s : Went × List Float} → poseAt poses p ≡ endPose end (poseAt poses x) (poseAt poses y)
+      → FreePose m n poses l p i → s ≡ oneIn (dofOf m) n (stowedProbes l p) z end i w
+      → s ≡ oneOf lowerTriangle m n (poseAt poses x) (poseAt poses y) e end i w
+  one-known end p {i} q f g =
+      g ∙ ap (λ (z : Linked). oneIn (dofOf m) n (stowedProbes l p) z end i w) h
+      ∙ one-linked m n (poseAt poses x) (poseAt poses y) e w end i (stowedProbes l p)
+      (λ c b s. f .probes c b s ∙ ap (λ (x : Pose). probesOf m x c s) q)
 
   pub both-known : {i k : ℕ} {s : Went × List Float} → FreePose m n poses l x i → FreePose m n poses l y k
       → s ≡ bothIn (dofOf m) n (stowedProbes l x) (stowedProbes l y) z i k w

@@ -38,7 +38,8 @@ module _ (n : ℕ) where
   at-gradient : (i : ℕ) → i < n → placeOf n (n * n + n + i) ≡ kept
   unfolding placeOf
   at-gradient i l =
-      sym (left _ (le-ltb (n * n + n + i) (n * n) (omega arith)) (left _ (le-ltb (n * n + n + i) (n * n + n) (omega arith)) (taken _ (lt-ltb (n * n + n + i) (n * n + n + n) (omega arith)) refl)))
+      sym (left _ (le-ltb (n * n + n + i) (n * n) (omega arith))
+      (left _ (le-ltb (n * n + n + i) (n * n + n) (omega arith)) (taken _ (lt-ltb (n * n + n + i) (n * n + n + n) (omega arith)) refl)))
 
   at-rest : (q : ℕ) → need n ≤ q → placeOf n q ≡ kept
   unfolding placeOf

@@ -1,5 +1,5 @@
 -- What an edge adds, worked out from its parts, is what the definitions say. Assumes nothing.
-use mathlib.Core.Path.{_≡_, refl, sym, ap, _∙_}
+use mathlib.Core.Path.{_≡_, refl, ap}
 use mathlib.Core.Bool.{Bool, true, false}
 use mathlib.Core.List.{List}
 use Prim.Native.Nat.{ℕ, _<_}
@@ -55,7 +55,7 @@ module _ (m : Manifold) (a b : Pose) (e : Edge) {l : Link} {d : Twist} (h : link
     unfolding columnStep columnStepIn columnOf columnIn
     step-linked c b j = rw (p c b true, p c b false, moved-linked end c true, moved-linked end c false)
 
-    pub jacobian-linked : jacobianOf m a b e end ≡ jacobianIn (dofOf m) l end probe
+    jacobian-linked : jacobianOf m a b e end ≡ jacobianIn (dofOf m) l end probe
     unfolding jacobianOf jacobianIn
     jacobian-linked = ap well (each-ext (columnStep m a b e end) (columnStepIn l end probe) (dofOf m) zeros step-linked)
 

@@ -7,11 +7,11 @@ use lib.Ieee.{Float}
 use Rattle.numbers.specs.Walks.{each, only}
 use Rattle.numbers.proofs.Walking.{each-ext}
 use Rattle.rotations.specs.declared.Pose.{Pose}
-use Rattle.graph.specs.Graph.{Links, isBlock, isActive}
+use Rattle.graph.specs.Graph.{Links, isBlock}
 use Rattle.graph.specs.declared.Edge.{Edge}
 use Rattle.graph.specs.declared.Manifold.{Manifold}
 use Rattle.graph.specs.declared.Slot.{Slot}
-use Rattle.assembly.specs.Assembly.{lowerTriangle, edgeOf, addAt, cleared, assembledEnds, assembledOf}
+use Rattle.assembly.specs.Assembly.{lowerTriangle, edgeOf, addAt, edgeStep, cleared, assembledEnds, assembledOf}
 
 -- the same edges between the same poses; pose numbers may differ
 pub record Same (l l' : Links Edge) (pose pose' : ℕ → Pose) : Type 0 where
@@ -32,7 +32,7 @@ module _ (m : Manifold) (n : ℕ) (l l' : Links Edge) (pose pose' : ℕ → Pose
   same-ends =
       each-ext _ _ (l .edges) (cleared n w)
       (λ k b y. same-step m n y (s .pose-a k b) (s .pose-b k b) (s .same-measured k b) (s .slot-a k b) (s .slot-b k b))
-      ∙ ap (λ c. each (λ k. only (isActive l' k) (addAt lowerTriangle m n l' pose' k)) c (cleared n w)) (s .as-many)
+      ∙ ap (λ c. each (edgeStep lowerTriangle m n l' pose') c (cleared n w)) (s .as-many)
 
   pub same-assembly : assembledOf m n l pose w ≡ assembledOf m n l' pose' w
   unfolding assembledOf

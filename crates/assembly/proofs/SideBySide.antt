@@ -32,7 +32,7 @@ use Rattle.residual.specs.declared.Residual.the-variants.{Six, Failed}
 use Rattle.residual.specs.declared.BothResiduals.{BothResiduals}
 use Rattle.residual.proofs.Linking.{moved-residual}
 use Rattle.assembly.specs.Jacobians.{withSix, derivative, zeros, codeOf}
-use Rattle.assembly.specs.FromParts.{movedIn, columnBy, columnIn, hingeAlong, hingesAlong, SharesTurn, jacobianIn}
+use Rattle.assembly.specs.FromParts.{movedIn, columnBy, columnIn, hingeAlong, hingesAlong, SharesTurn, HasHinge, SharesHinge, jacobianIn}
 use Rattle.assembly.proofs.Going.{jacobian-stopped}
 
 -- ---- the probes and the residuals, asked in turn
@@ -111,7 +111,7 @@ module _ (l : Link) (end : EdgeEndpoint) where
 
   -- a side, from the cell of its probe
   side-of : {shift : Hinge} (c : ℕ) (a : Edge) {u : Rigid} → u ≡ wide (a .measured)
-      → (c < 3 → (t : Transform) → stowedFrom a ≡ Into t → hingeOf l end (wide t .q) ≡ shift)
+      → (c < 3 → HasHinge l end shift (stowedFrom a))
       → FitsProbe (stowedFrom a) (hingeAlong l end shift c (u .q)) (u .t)
   unfolding hingeAlong if-then
   side-of {shift} c a {u} e s t q = (go (ltb c 3) (ltb-true c 3), ap (λ (r : Rigid). r .t) whole)
@@ -124,16 +124,16 @@ module _ (l : Link) (end : EdgeEndpoint) where
       go false r = ap (λ (r : Rigid). hingeOf l end (r .q)) whole
 
   pub column-had : {shift : Hinge} (c : ℕ) (a b : Edge) {u v : Rigid} {h : Hinges} {both : BothResiduals} {r : Residual}
-      → (c < 3 → (t : Transform) → (stowedFrom a ≡ Into t → hingeOf l end (wide t .q) ≡ shift) × (stowedFrom b ≡ Into t → hingeOf l end (wide t .q) ≡ shift))
+      → (c < 3 → HasHinge l end shift (stowedFrom a) × HasHinge l end shift (stowedFrom b))
       → u ≡ wide (a .measured) → v ≡ wide (b .measured) → h ≡ hingesAlong l end shift c (u .q) (v .q) → both ≡ residualsAt l end h (u .t) (v .t)
       → r ≡ columnBy (stowedFrom a) (both .ahead) (stowedFrom b) (both .behind) → r ≡ columnIn l end (stowedFrom a) (stowedFrom b)
   unfolding residualsAt hingesAlong
-  column-had c a b s e f g k m = m ∙ rw (k, g) (asked (stowedFrom a) (stowedFrom b) (side-of c a e (λ q t. s q t .0)) (side-of c b f (λ q t. s q t .1)))
+  column-had c a b s e f g k m = m ∙ rw (k, g) (asked (stowedFrom a) (stowedFrom b) (side-of c a e (λ q. s q .0)) (side-of c b f (λ q. s q .1)))
 
   -- all probes along the first three axes have what the first one's quaternion gives
   pub shift-shared : {probe : ℕ → Bool → Converted} {first : Transform} {f : Rigid} {shift : Hinge}
       → SharesTurn probe → probe 0 true ≡ Into first → f ≡ wide first → shift ≡ hingeOf l end (f .q)
-      → (c : ℕ) → c < 3 → (ahead : Bool) (t : Transform) → probe c ahead ≡ Into t → hingeOf l end (wide t .q) ≡ shift
+      → (c : ℕ) → SharesHinge l end shift c (probe c)
   unfolding wide
   shift-shared s e f g c q ahead t h = rw (g, f, s c ahead t _ q e h)
 

@@ -27,10 +27,12 @@ use Rattle.residual.specs.Residuals.{sixOf}
 use Rattle.residual.specs.declared.Residual.{Residual}
 use Rattle.residual.specs.declared.Residual.the-variants.{Six, Failed}
 use Rattle.assembly.specs.Jacobians.{withSix}
-use Rattle.assembly.specs.Assembly.{dotWith, dotOf, addTo, gradientOf, lent, withJacobian, cleared, lowerTriangle, entryOf, rowOf, blockOf, endOf, crossOf, endsOf, oneOf, bothOf, edgeOf, addAt, endsBy, assembledEnds}
+use Rattle.assembly.specs.Assembly.{dotWith, dotOf, addTo, gradientOf, lent, withJacobian, cleared, lowerTriangle, entryOf, rowOf, blockOf}
+use Rattle.assembly.specs.Assembly.{endOf, crossOf, endsOf, oneOf, bothOf, edgeOf, addAt, endsBy, assembledEnds}
 use Rattle.residual.specs.declared.EdgeEndpoint.{EdgeEndpoint}
 use Rattle.residual.specs.declared.EdgeEndpoint.the-variants.{A, B}
-use Rattle.numbers.proofs.Invariants.{Together, Abreast, each-abreast, each-together, then-together, only-together, Good, Over, Twin, Lost, beside, alone, each-over, each-good}
+use Rattle.numbers.proofs.Invariants.{Together, Abreast, each-abreast, each-together, then-together, only-together, Good, Over, Twin, Lost, beside}
+use Rattle.numbers.proofs.Invariants.{alone, each-over, each-good}
 use Rattle.assembly.proofs.Edges.{slot-fits}
 
 -- ---- additions to a lent part are additions to the whole
@@ -97,7 +99,8 @@ lent-fits m ends edges blocks free =
 
 -- ---- two assemblies side by side, which keep entries by two tests: P holds through each addition to the gradient, each diagonal block and each block
 -- ---- below; `Level` is what is known where an edge has both ends in one block
-module _ (keeps keeps' : ℕ → ℕ → Bool) (n : ℕ) (m : Manifold) (Level : Type 0) (P Q : List Float → List Float → Type 0) (weaker : (w v : List Float) → P w v → Q w v)
+module _ (keeps keeps' : ℕ → ℕ → Bool) (n : ℕ) (m : Manifold) (Level : Type 0) (P Q : List Float → List Float → Type 0)
+    (weaker : (w v : List Float) → P w v → Q w v)
     (slope : (w v : List Float) (i : ℕ) (x : Float) → i < n → P w v → Together P Q (addTo w (n * n + n + i) x) (addTo v (n * n + n + i) x))
     (diagonal : (b : ℕ) (j : List (List Float)) (w v : List Float) → b * dofOf m + dofOf m ≤ n → P w v
     → Together P Q (blockOf keeps n (dofOf m) b b j j w) (blockOf keeps' n (dofOf m) b b j j v))
@@ -109,7 +112,8 @@ module _ (keeps keeps' : ℕ → ℕ → Bool) (n : ℕ) (m : Manifold) (Level :
   six-together (Six d) w v f g p h = h d
   six-together (Failed why) w v f g p h = (refl, weaker w v p)
 
-  jacobian-together : (x : Went × List (List Float)) (w v : List Float) (f g : List (List Float) → Went × List Float) → P w v → ((j : List (List Float)) → Together P Q (f j) (g j))
+  jacobian-together : (x : Went × List (List Float)) (w v : List Float) (f g : List (List Float) → Went × List Float) → P w v
+      → ((j : List (List Float)) → Together P Q (f j) (g j))
       → Together P Q (withJacobian x w f) (withJacobian x v g)
   unfolding withJacobian
   jacobian-together (Well, j) w v f g p h = h j
@@ -120,7 +124,8 @@ module _ (keeps keeps' : ℕ → ℕ → Bool) (n : ℕ) (m : Manifold) (Level :
   unfolding gradientOf
   gradient-together b j r w v h p =
       rw (lent-each (n * n + n + b * dofOf m) (λ c. dotWith j c r) (dofOf m) w, lent-each (n * n + n + b * dofOf m) (λ c. dotWith j c r) (dofOf m) v)
-      (each-together P Q _ _ (dofOf m) w v (λ c l y z q. rw (add-assoc (n * n + n) (b * dofOf m) c) (slope y z (b * dofOf m + c) (dotWith j c r) (omega arith) q)) p)
+      (each-together P Q _ _ (dofOf m) w v
+      (λ c l y z q. rw (add-assoc (n * n + n) (b * dofOf m) c) (slope y z (b * dofOf m + c) (dotWith j c r) (omega arith) q)) p)
 
   end-together : (b : ℕ) (j : List (List Float)) (r w v : List Float) → b * dofOf m + dofOf m ≤ n → P w v
       → Together P Q (endOf keeps n (dofOf m) b j r w) (endOf keeps' n (dofOf m) b j r v)
@@ -142,7 +147,8 @@ module _ (keeps keeps' : ℕ → ℕ → Bool) (n : ℕ) (m : Manifold) (Level :
       → Together P Q (endsOf keeps n (dofOf m) i k ja jb r w) (endsOf keeps' n (dofOf m) i k ja jb r v)
   unfolding endsOf
   ends-together i k ja jb r w v o hi hk p =
-      then-together P Q _ _ _ _ (then-together P Q _ _ _ _ (end-together i ja r w v hi p) (λ y z q. end-together k jb r y z hk q)) (λ y z q. cross-together i k ja jb y z o hi hk q)
+      then-together P Q _ _ _ _ (then-together P Q _ _ _ _ (end-together i ja r w v hi p) (λ y z q. end-together k jb r y z hk q))
+      (λ y z q. cross-together i k ja jb y z o hi hk q)
 
   one-together : (a b : Pose) (e : Edge) (end : EdgeEndpoint) (i : ℕ) (w v : List Float) → i * dofOf m + dofOf m ≤ n → P w v
       → Together P Q (oneOf keeps m n a b e end i w) (oneOf keeps' m n a b e end i v)
@@ -153,10 +159,12 @@ module _ (keeps keeps' : ℕ → ℕ → Bool) (n : ℕ) (m : Manifold) (Level :
       → Together P Q (bothOf keeps m n a b e i k w) (bothOf keeps' m n a b e i k v)
   unfolding bothOf
   both-together a b e i k w v o hi hk p =
-      six-together _ w v _ _ p (λ r. jacobian-together _ w v _ _ p (λ ja. jacobian-together _ w v _ _ p (λ jb. ends-together i k ja jb (sixOf r) w v o hi hk p)))
+      six-together _ w v _ _ p
+      (λ r. jacobian-together _ w v _ _ p (λ ja. jacobian-together _ w v _ _ p (λ jb. ends-together i k ja jb (sixOf r) w v o hi hk p)))
 
   edge-together : (a b : Pose) (e : Edge) (sa sb : Slot) (w v : List Float)
-      → ((i : ℕ) → sa ≡ Block i → i * dofOf m + dofOf m ≤ n) → ((i : ℕ) → sb ≡ Block i → i * dofOf m + dofOf m ≤ n) → ((i : ℕ) → sa ≡ Block i → sb ≡ Block i → Level)
+      → ((i : ℕ) → sa ≡ Block i → i * dofOf m + dofOf m ≤ n) → ((i : ℕ) → sb ≡ Block i → i * dofOf m + dofOf m ≤ n)
+      → ((i : ℕ) → sa ≡ Block i → sb ≡ Block i → Level)
       → P w v → Together P Q (edgeOf keeps m n a b e sa sb w) (edgeOf keeps' m n a b e sa sb v)
   unfolding edgeOf
   edge-together a b e Fixed Fixed w v ha hb o p = p
@@ -165,7 +173,8 @@ module _ (keeps keeps' : ℕ → ℕ → Bool) (n : ℕ) (m : Manifold) (Level :
   edge-together a b e (Block i) (Block k) w v ha hb o p = both-together a b e i k w v (λ q. o i refl (ap Block (sym q))) (ha i refl) (hb k refl) p
 
   -- and so through all edges
-  pub edges-abreast : (l : Links Edge) (pose : ℕ → Pose) (w : List Float) → Fits m n l → ((k : ℕ) → k < l .edges → (b : ℕ) → l .slot (l .a k) ≡ Block b → l .slot (l .b k) ≡ Block b → Level)
+  pub edges-abreast : (l : Links Edge) (pose : ℕ → Pose) (w : List Float) → Fits m n l
+      → ((k : ℕ) → k < l .edges → (b : ℕ) → l .slot (l .a k) ≡ Block b → l .slot (l .b k) ≡ Block b → Level)
       → P (cleared n w) (cleared n w) → Abreast P Q (endsBy keeps m n l pose w) (endsBy keeps' m n l pose w)
   unfolding addAt
   edges-abreast l pose w f o p =

@@ -90,7 +90,8 @@ module _ (n dof : ℕ) where
               rw (i refl) (getD-set-same w q x nan f ∙ sym (getD-set-same v q x nan g))
           go false i o = getD-set-other w q p x nan (o refl) ∙ e ∙ sym (getD-set-other v q p x nan (o refl))
 
-  added : (w v : List Float) (q : ℕ) (x : Float) → q < need n → Off q → getD w q nan ≡ getD v q nan → Mirrored n dof w v → Together (Mirrored n dof) Any (addTo w q x) (addTo v q x)
+  added : (w v : List Float) (q : ℕ) (x : Float) → q < need n → Off q → getD w q nan ≡ getD v q nan → Mirrored n dof w v
+      → Together (Mirrored n dof) Any (addTo w q x) (addTo v q x)
   unfolding addTo mustBeFinite if-then
   added w v q x l off e s = rw (← e) (go (getD w q nan ⊞ x) (finite (getD w q nan ⊞ x)))
     where
@@ -98,7 +99,8 @@ module _ (n dof : ℕ) where
       go y true = stored w v q y l off s
       go y false = (refl, tt)
 
-  slope : (w v : List Float) (i : ℕ) (x : Float) → i < n → Mirrored n dof w v → Together (Mirrored n dof) Any (addTo w (n * n + n + i) x) (addTo v (n * n + n + i) x)
+  slope : (w v : List Float) (i : ℕ) (x : Float) → i < n → Mirrored n dof w v
+      → Together (Mirrored n dof) Any (addTo w (n * n + n + i) x) (addTo v (n * n + n + i) x)
   slope w v i x l s =
       added w v (n * n + n + i) x (omega arith)
       (λ b r c f h o e. let z : (b * dof + c) * n + (b * dof + r) < n * n = digits-lt (omega arith) (omega arith) in omega arith)
@@ -126,14 +128,17 @@ module _ (n dof : ℕ) where
       entry r c lr lc y z p =
           let o : cb * dof + c ≤ rb * dof + r = (let q = over in omega arith) in
           rw (le-leb (cb * dof + c) (rb * dof + r) o)
-          (added y z ((cb * dof + c) * n + (rb * dof + r)) (dotOf jr r jc c) (in-matrix (rb * dof + r) (cb * dof + c) (omega arith) (omega arith)) (off r c lr lc)
+          (added y z ((cb * dof + c) * n + (rb * dof + r)) (dotOf jr r jc c) (in-matrix (rb * dof + r) (cb * dof + c) (omega arith) (omega arith))
+          (off r c lr lc)
           (p .same .matrix (rb * dof + r) (cb * dof + c) o (omega arith)) p)
 
   -- ---- a block on the diagonal
-  told-together : (t : Bool) (x y : Went × List Float) → x .0 ≡ told t → y .0 ≡ told t → (t ≡ true → Mirrored n dof (x .1) (y .1)) → Together (Mirrored n dof) Any x y
+  told-together : (t : Bool) (x y : Went × List Float) → x .0 ≡ told t → y .0 ≡ told t → (t ≡ true → Mirrored n dof (x .1) (y .1))
+      → Together (Mirrored n dof) Any x y
   unfolding if-then
   told-together t (x, w) (y, v) e f h =
-      subst (λ (x : Went). Together (Mirrored n dof) Any (x, w) (y, v)) (sym e) (subst (λ (y : Went). Together (Mirrored n dof) Any (told t, w) (y, v)) (sym f) (go t h))
+      subst (λ (x : Went). Together (Mirrored n dof) Any (x, w) (y, v)) (sym e)
+      (subst (λ (y : Went). Together (Mirrored n dof) Any (told t, w) (y, v)) (sym f) (go t h))
     where
       go : (t : Bool) → (t ≡ true → Mirrored n dof w v) → Together (Mirrored n dof) Any (told t, w) (told t, v)
       go true h = h refl
@@ -167,7 +172,8 @@ module _ (n dof : ℕ) where
           where
             under : (r c : ℕ) → c ≤ r → r < dof → finite (whole r c) ≡ true
             under r c h' l =
-                sym (ap finite (agree r c h' l)) ∙ then-finite n dof b j w lowerTriangle h r c l (omega arith) (le-leb (b * dof + c) (b * dof + r) (omega arith))
+                sym (ap finite (agree r c h' l)) ∙ then-finite n dof b j w lowerTriangle h r c l (omega arith)
+                (le-leb (b * dof + c) (b * dof + r) (omega arith))
 
             go : (r c : ℕ) → r < dof → c < dof → (t : Bool) → (t ≡ true → c ≤ r) → (t ≡ false → r < c) → finite (whole r c) ≡ true
             go r c l o true f g = under r c (f refl) l
@@ -176,7 +182,8 @@ module _ (n dof : ℕ) where
         down : ((k : ℕ) → k < dof * dof → asked n dof b j v wholeBlocks k ≡ true) → (k : ℕ) → k < dof * dof → asked n dof b j w lowerTriangle k ≡ true
         down h =
             if-finite n dof b j w lowerTriangle
-            (λ r c l o t. let z = leb-true (b * dof + c) (b * dof + r) t in ap finite (agree r c (omega arith) l) ∙ then-finite n dof b j v wholeBlocks h r c l o refl)
+            (λ r c l o t. let z = leb-true (b * dof + c) (b * dof + r) t in ap finite (agree r c (omega arith) l)
+            ∙ then-finite n dof b j v wholeBlocks h r c l o refl)
 
     -- the block added to both
     module _ (y z : List Float) (p : Added n dof b j w lowerTriangle y) (q : Added n dof b j v wholeBlocks z) where
@@ -194,7 +201,8 @@ module _ (n dof : ℕ) where
               off : (r c : ℕ) → r < dof → c < dof → k * n + i ≡ (b * dof + c) * n + (b * dof + r) → ⊥
               off r c lr lc e = let t = one-place n i k (b * dof + r) (b * dof + c) l (omega arith) e in o r c lr lc (t .0) (t .1)
 
-          go : (t u : Bool) → (t ≡ true → b * dof ≤ k) → (t ≡ false → k < b * dof) → (u ≡ true → i < b * dof + dof) → (u ≡ false → b * dof + dof ≤ i) → matrixOf y n i k ≡ matrixOf z n i k
+          go : (t u : Bool) → (t ≡ true → b * dof ≤ k) → (t ≡ false → k < b * dof) → (u ≡ true → i < b * dof + dof) → (u ≡ false → b * dof + dof ≤ i)
+              → matrixOf y n i k ≡ matrixOf z n i k
           go true true f _ g _ =
               let fk = f refl in
               let gi = g refl in
@@ -205,10 +213,12 @@ module _ (n dof : ℕ) where
           go false true _ f _ _ = without (λ r c lr lc ei ek. let fk = f refl in omega arith)
           go false false _ f _ _ = without (λ r c lr lc ei ek. let fk = f refl in omega arith)
 
-      still-symmetric : (b' r c : ℕ) → b' * dof + dof ≤ n → r < dof → c < dof → matrixOf z n (b' * dof + r) (b' * dof + c) ≡ matrixOf z n (b' * dof + c) (b' * dof + r)
+      still-symmetric : (b' r c : ℕ) → b' * dof + dof ≤ n → r < dof → c < dof
+          → matrixOf z n (b' * dof + r) (b' * dof + c) ≡ matrixOf z n (b' * dof + c) (b' * dof + r)
       still-symmetric b' r c f h l = go (eqb b' b) (eqb-true b' b) (eqb-false b' b)
         where
-          go : (t : Bool) → (t ≡ true → b' ≡ b) → (t ≡ false → b' ≡ b → ⊥) → matrixOf z n (b' * dof + r) (b' * dof + c) ≡ matrixOf z n (b' * dof + c) (b' * dof + r)
+          go : (t : Bool) → (t ≡ true → b' ≡ b) → (t ≡ false → b' ≡ b → ⊥)
+              → matrixOf z n (b' * dof + r) (b' * dof + c) ≡ matrixOf z n (b' * dof + c) (b' * dof + r)
           go true e _ = rw (e refl) (q .inside r c h l refl ∙ turned r c h l ∙ sym (q .inside c r l h refl))
           go false _ o = other r c h l ∙ s .symmetric b' r c f h l ∙ sym (other c r l h)
             where
@@ -243,7 +253,8 @@ module _ (n dof : ℕ) where
         room = cleared-room n w;
         as-long = refl;
         same = record { matrix = λ i j h l. refl; gradient = λ i l. refl };
-        symmetric = λ b r c f h l. zero (b * dof + r) (b * dof + c) (omega arith) (omega arith) ∙ sym (zero (b * dof + c) (b * dof + r) (omega arith) (omega arith));
+        symmetric = λ b r c f h l. zero (b * dof + r) (b * dof + c) (omega arith) (omega arith)
+            ∙ sym (zero (b * dof + c) (b * dof + r) (omega arith) (omega arith));
       }
     where
       zero : (i k : ℕ) → i < n → k < n → matrixOf (cleared n w) n i k ≡ num 0

@@ -120,8 +120,12 @@ module _ (keeps : ℕ → ℕ → Bool) where
   addAt m n l pose k w =
       edgeOf m n (pose (l .a k)) (pose (l .b k)) (l .measured k) (l .slot (l .a k)) (l .slot (l .b k)) w
 
+  -- nothing, if it is not active
+  abbrev pub edgeStep : Manifold → ℕ → Links Edge → (ℕ → Pose) → ℕ → List Float → Went × List Float
+  edgeStep m n l pose k = only (isActive l k) (addAt m n l pose k)
+
   abbrev pub endsBy : Manifold → ℕ → Links Edge → (ℕ → Pose) → List Float → Ended (List Float)
-  endsBy m n l pose w = each (λ k. only (isActive l k) (addAt m n l pose k)) (l .edges) (cleared n w)
+  endsBy m n l pose w = each (edgeStep m n l pose) (l .edges) (cleared n w)
 
 -- with the lower triangle kept
 unfoldable pub assembledEnds : Manifold → ℕ → Links Edge → (ℕ → Pose) → List Float → Ended (List Float)

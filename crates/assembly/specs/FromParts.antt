@@ -11,6 +11,7 @@ use Rattle.numbers.specs.Walks.{each, well}
 use Rattle.numbers.specs.declared.Failure.{Failure}
 use Rattle.numbers.specs.declared.Went.{Went}
 use Rattle.numbers.specs.declared.Went.the-variants.{Well, Bad}
+use Rattle.rotations.specs.Rotation.{wide}
 use Rattle.rotations.specs.declared.Twist.{Twist}
 use Rattle.rotations.specs.declared.Transform.{Transform}
 use Rattle.rotations.specs.declared.Quat.{Quat}
@@ -52,6 +53,13 @@ hingesAlong l end shift c p q = record { ahead = hingeAlong l end shift c p; beh
 -- the probes along the first three axes have one quaternion
 abbrev pub SharesTurn : (ℕ → Bool → Converted) → Type 0
 SharesTurn probe = (c : ℕ) (ahead : Bool) (t u : Transform) → c < 3 → probe 0 true ≡ Into u → probe c ahead ≡ Into t → t .q ≡ u .q
+
+-- the quaternion of a probe that could be had gives the hinge h; and so do both along axis c, if it is one of the first three
+abbrev pub HasHinge : Link → EdgeEndpoint → Hinge → Converted → Type 0
+HasHinge l end h x = (t : Transform) → x ≡ Into t → hingeOf l end (wide t .q) ≡ h
+
+abbrev pub SharesHinge : Link → EdgeEndpoint → Hinge → ℕ → (Bool → Converted) → Type 0
+SharesHinge l end h c probe = c < 3 → (ahead : Bool) → HasHinge l end h (probe ahead)
 
 unfoldable pub columnStepIn : Link → EdgeEndpoint → (ℕ → Bool → Converted) → ℕ → List (List Float) → Went × List (List Float)
 columnStepIn l end probe c j = withSix (columnIn l end (probe c true) (probe c false)) (λ d. (Well, putSix j c d)) (λ why. (Bad why, j))

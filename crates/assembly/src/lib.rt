@@ -5,20 +5,18 @@ ghost use Prim.Native.Nat.{ℕ, _+_, _*_, _/_, _^_, _<_, _≤_};
 ghost use mathlib.Core.List.{_++_};
 ghost use lib.ListN.{length, drop, replicate};
 ghost use Rattle.numbers.specs.Notation.{num};
-ghost use Rattle.numbers.specs.Walks.{each, only};
+ghost use Rattle.numbers.specs.Walks.{each};
 ghost use Rattle.solve.specs.Work.{need};
-ghost use Rattle.graph.specs.Graph.{isActive};
 ghost use Rattle.graph.specs.Lent.{dofOf, poseAt, edgeAt, slotIn, lentLinks};
 ghost use Rattle.graph.specs.declared.Slot.the-variants.{Block};
 ghost use Rattle.assembly.specs.Jacobians.{slope, slopeVec, derivative, putSix, codeOf, wentOf};
-ghost use Rattle.assembly.specs.Assembly.{dotOf, dotWith, addTo, gradientOf, lowerTriangle, entryOf, rowOf, blockOf, endOf, crossOf, endsOf, edgeOf, addAt, assembledFrom, assembledOf};
-ghost use mathlib.Core.Bool.{Bool, true, false};
-ghost use Rattle.assembly.specs.FromParts.{hingesAlong, columnBy, columnIn, SharesTurn, jacobianIn, oneIn, bothIn};
+ghost use Rattle.assembly.specs.Assembly.{dotOf, dotWith, addTo, gradientOf, lowerTriangle, entryOf, rowOf, blockOf, endOf, crossOf, endsOf};
+ghost use Rattle.assembly.specs.Assembly.{edgeOf, edgeStep, assembledFrom, assembledOf};
+ghost use mathlib.Core.Bool.{true, false};
+ghost use Rattle.assembly.specs.FromParts.{hingesAlong, columnBy, columnIn, SharesTurn, HasHinge, SharesHinge, jacobianIn, oneIn, bothIn};
 ghost use Rattle.assembly.specs.Known.{stowedProbes, Axis, Probed, Posed, Ready, FreePose, Shaped};
-ghost use Rattle.rotations.specs.Rotation.{wide};
 ghost use Rattle.pose_conversion.specs.Conversions.{checkedTransform};
-ghost use Rattle.pose_conversion.specs.declared.Converted.the-variants.{Into};
-ghost use Rattle.residual.specs.EdgeParts.{linkedOf, hingeOf};
+ghost use Rattle.residual.specs.EdgeParts.{linkedOf};
 ghost use Rattle.residual.specs.Stowed.{stowedFrom, knownPoses, Based};
 ghost use Rattle.probes.specs.Probes.{probesOf};
 ghost use Rattle.probes.specs.Stances.{probingOf, probeBy};
@@ -137,7 +135,7 @@ fn column_by(ahead: Edge, behind: Edge, both: BothResiduals) -> Residual
 // The six derivatives along axis c, from the cells of an end's probes: (r(+0.001) − r(−0.001)) / (2 × 0.001), all f32. Both residuals are worked out side
 // by side, of a cell that holds nothing too, and asked after that.
 fn column(l: Link, end: EdgeEndpoint, shift: Hinge, c: usize, ahead: Edge, behind: Edge) -> Residual
-    requires { ⌜ (c < 3 → (t : Transform) → (stowedFrom ahead ≡ Into t → hingeOf l end (wide t .q) ≡ shift) × (stowedFrom behind ≡ Into t → hingeOf l end (wide t .q) ≡ shift)) ⌝ }
+    requires { ⌜ (c < 3 → HasHinge l end shift (stowedFrom ahead) × HasHinge l end shift (stowedFrom behind)) ⌝ }
     ensures { λ r. ⌜ r ≡ columnIn l end (stowedFrom ahead) (stowedFrom behind) ⌝ }
 {
     let a = rotations::widened(ahead.measured);
@@ -150,7 +148,7 @@ fn column(l: Link, end: EdgeEndpoint, shift: Hinge, c: usize, ahead: Edge, behin
     )
 }
 
-// Cell e, all of which is lent.
+// Cell e, all of which is lent: so there is no test of the length, as `graph::edge_at` has one.
 fn stowed_at(known: &[f32], e: usize) -> Edge
     requires { ⌜ e * 8 + 8 ≤ length (now known) ⌝ }
     ensures { λ r. ⌜ r ≡ edgeAt (now (known .entry)) e ⌝ }
@@ -183,7 +181,7 @@ fn column_at(
     shift: Hinge,
     c: usize,
 ) -> Residual
-    requires { ⌜ (x < 256) × (c < 6) × (length (now known) ≡ 26624) × (c < 3 → (ahead : Bool) (t : Transform) → stowedProbes (now known) x c ahead ≡ Into t → hingeOf l end (wide t .q) ≡ shift) ⌝ }
+    requires { ⌜ (x < 256) × (c < 6) × (length (now known) ≡ 26624) × SharesHinge l end shift c (stowedProbes (now known) x c) ⌝ }
     ensures { λ r. ⌜ r ≡ columnIn l end (stowedProbes (now (known .entry)) x c true) (stowedProbes (now (known .entry)) x c false) ⌝ }
 {
     let ahead = stowed_at(known, 256 + (x * 12 + c));
@@ -236,7 +234,7 @@ fn columns(
     shift: Hinge,
     code: &mut u32,
 ) -> [[f32; 6]; 6]
-    requires { ⌜ (x < 256) × (length (now known) ≡ 26624) × ((c : ℕ) → c < 3 → (ahead : Bool) (t : Transform) → stowedProbes (now known) x c ahead ≡ Into t → hingeOf l end (wide t .q) ≡ shift) ⌝ }
+    requires { ⌜ (x < 256) × (length (now known) ≡ 26624) × ((c : ℕ) → SharesHinge l end shift c (stowedProbes (now known) x c)) ⌝ }
     ensures { λ r. ⌜ (now (code .exit) ≡ codeOf (jacobianIn (dofOf m) l end (stowedProbes (now (known .entry)) x) .0)) × (r ≡ jacobianIn (dofOf m) l end (stowedProbes (now (known .entry)) x) .1) ⌝ }
 {
     let mut j = [[0.0f32; 6]; 6];
@@ -299,15 +297,6 @@ fn fill_probes(known: &mut [f32], stance: Stance, dof: usize, x: usize)
     }
 }
 
-fn fill_stance(known: &mut [f32], m: Manifold, probing: Probing, poses: &[f64], x: usize)
-    requires { ⌜ (x < 256) × (probing ≡ probingOf m) × (length (now known) ≡ 26624) × Based (now poses) (now known) (knownPoses (length (now poses))) ⌝ }
-    ensures { λ _. ⌜ Probed (probesOf m (poseAt (now (poses .entry)) x)) x (dofOf m) (now (known .entry)) (now (known .exit)) ⌝ }
-{
-    let base = residual::base_at(known, residual::known_poses(poses), poses, x);
-    let stance = probes::stance_of(probing, graph::pose_at(poses, x), base);
-    fill_probes(known, stance, graph::dof(m), x);
-}
-
 // The probes of a pose that is not free are not asked for.
 fn fill_pose(known: &mut [f32], m: Manifold, probing: Probing, poses: &[f64], slot: Slot, x: usize)
     requires { ⌜ (x < 256) × (probing ≡ probingOf m) × (length (now known) ≡ 26624) × Based (now poses) (now known) (knownPoses (length (now poses))) ⌝ }
@@ -315,7 +304,11 @@ fn fill_pose(known: &mut [f32], m: Manifold, probing: Probing, poses: &[f64], sl
 {
     match slot {
         Slot::Fixed => {}
-        Slot::Block(_) => fill_stance(known, m, probing, poses, x),
+        Slot::Block(_) => {
+            let base = residual::base_at(known, residual::known_poses(poses), poses, x);
+            let stance = probes::stance_of(probing, graph::pose_at(poses, x), base);
+            fill_probes(known, stance, graph::dof(m), x);
+        }
     }
 }
 
@@ -631,7 +624,7 @@ fn add_edge_at(
     k: usize,
 ) -> Went
     requires { ⌜ Shaped shape (now poses) (now blocks) (now known) × (need (shape .n) ≤ length (now w)) × (k < 2 ^ 62) ⌝ }
-    ensures { λ went. ⌜ (went, now (w .exit)) ≡ only (isActive (lentLinks (now (ends .entry)) (now (edges .entry)) (now (blocks .entry)) (shape .free)) k) (addAt lowerTriangle (shape .manifold) (shape .n) (lentLinks (now (ends .entry)) (now (edges .entry)) (now (blocks .entry)) (shape .free)) (poseAt (now (poses .entry))) k) (now (w .entry)) ⌝ }
+    ensures { λ went. ⌜ (went, now (w .exit)) ≡ edgeStep lowerTriangle (shape .manifold) (shape .n) (lentLinks (now (ends .entry)) (now (edges .entry)) (now (blocks .entry)) (shape .free)) (poseAt (now (poses .entry))) k (now (w .entry)) ⌝ }
 {
     let m = shape.manifold;
     let a = numbers::index_at(ends, k * 2);
@@ -663,7 +656,7 @@ fn add_edges(
     blocks: &[u32; 256],
 ) -> Assembled
     requires { ⌜ Shaped shape (now poses) (now blocks) (now known) × (need (shape .n) ≤ length (now w)) ⌝ }
-    ensures { λ r. ⌜ (r, now (w .exit)) ≡ assembledFrom (each (λ k. only (isActive (lentLinks (now (ends .entry)) (now (edges .entry)) (now (blocks .entry)) (shape .free)) k) (addAt lowerTriangle (shape .manifold) (shape .n) (lentLinks (now (ends .entry)) (now (edges .entry)) (now (blocks .entry)) (shape .free)) (poseAt (now (poses .entry))) k)) (length (now (ends .entry)) / 2) (now (w .entry))) ⌝ }
+    ensures { λ r. ⌜ (r, now (w .exit)) ≡ assembledFrom (each (edgeStep lowerTriangle (shape .manifold) (shape .n) (lentLinks (now (ends .entry)) (now (edges .entry)) (now (blocks .entry)) (shape .free)) (poseAt (now (poses .entry)))) (length (now (ends .entry)) / 2) (now (w .entry))) ⌝ }
 {
     for k in 0..ends.len() / 2 {
         if let Went::Bad(why) = add_edge_at(w, shape, known, poses, ends, edges, blocks, k) {
@@ -683,7 +676,7 @@ fn add_all(
     blocks: &[u32; 256],
 ) -> Assembled
     requires { ⌜ (shape .n ≡ dofOf (shape .manifold) * shape .free) × (shape .free ≤ 4294967295) × (length (now blocks) ≡ 256) × (need (shape .n) ≤ length (now w)) ⌝ }
-    ensures { λ r. ⌜ (r, now (w .exit)) ≡ assembledFrom (each (λ k. only (isActive (lentLinks (now (ends .entry)) (now (edges .entry)) (now (blocks .entry)) (shape .free)) k) (addAt lowerTriangle (shape .manifold) (shape .n) (lentLinks (now (ends .entry)) (now (edges .entry)) (now (blocks .entry)) (shape .free)) (poseAt (now (poses .entry))) k)) (length (now (ends .entry)) / 2) (now (w .entry))) ⌝ }
+    ensures { λ r. ⌜ (r, now (w .exit)) ≡ assembledFrom (each (edgeStep lowerTriangle (shape .manifold) (shape .n) (lentLinks (now (ends .entry)) (now (edges .entry)) (now (blocks .entry)) (shape .free)) (poseAt (now (poses .entry)))) (length (now (ends .entry)) / 2) (now (w .entry))) ⌝ }
 {
     let m = shape.manifold;
     let mut known = [0.0f32; 26624];

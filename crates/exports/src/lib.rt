@@ -680,7 +680,7 @@ fn build_over(
     }
 }
 
-// Scratch is cleared before it is used, so it is no larger than a third, two thirds or all of what 64 free poses of six take, 148608 numbers.
+// Scratch for 64 free poses of four numbers: 256 (256 + 3). It is cleared before it is used, so that what is smaller is quicker.
 fn build_small(
     m: Manifold,
     poses: &[f64],
@@ -690,29 +690,14 @@ fn build_small(
     free: u32,
     work: &mut [f32],
 ) -> u32
-    requires { ⌜ (length (now work) ≡ need (dofOf m * free)) × (length (now work) ≤ 40000) ⌝ }
+    requires { ⌜ (length (now work) ≡ need (dofOf m * free)) × (length (now work) ≤ 66304) ⌝ }
     ensures { λ r. ⌜ (r, now (work .exit)) ≡ builtOut m (now (poses .entry)) (now (ends .entry)) (now (edges .entry)) (now (blocks .entry)) free (now (work .entry)) ⌝ }
 {
-    let mut system = [0.0f32; 40000];
+    let mut system = [0.0f32; 66304];
     build_over(m, poses, ends, edges, blocks, free, &mut system, work)
 }
 
-fn build_middle(
-    m: Manifold,
-    poses: &[f64],
-    ends: &[u32],
-    edges: &[f32],
-    blocks: &[u32; 256],
-    free: u32,
-    work: &mut [f32],
-) -> u32
-    requires { ⌜ (length (now work) ≡ need (dofOf m * free)) × (length (now work) ≤ 90000) ⌝ }
-    ensures { λ r. ⌜ (r, now (work .exit)) ≡ builtOut m (now (poses .entry)) (now (ends .entry)) (now (edges .entry)) (now (blocks .entry)) free (now (work .entry)) ⌝ }
-{
-    let mut system = [0.0f32; 90000];
-    build_over(m, poses, ends, edges, blocks, free, &mut system, work)
-}
-
+// Scratch for 64 free poses of six numbers: 384 (384 + 3).
 fn build_large(
     m: Manifold,
     poses: &[f64],
@@ -741,11 +726,8 @@ fn build(
     requires { ⌜ (length (now work) ≡ need (dofOf m * free)) × (length (now work) ≤ 148608) ⌝ }
     ensures { λ r. ⌜ (r, now (work .exit)) ≡ builtOut m (now (poses .entry)) (now (ends .entry)) (now (edges .entry)) (now (blocks .entry)) free (now (work .entry)) ⌝ }
 {
-    if work.len() <= 40000 {
+    if work.len() <= 66304 {
         return build_small(m, poses, ends, edges, blocks, free, work);
-    }
-    if work.len() <= 90000 {
-        return build_middle(m, poses, ends, edges, blocks, free, work);
     }
     build_large(m, poses, ends, edges, blocks, free, work)
 }

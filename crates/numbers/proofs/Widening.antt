@@ -29,7 +29,7 @@ value-scaled (inf t) s a c k h = absurd h
 value-scaled (fin t m e) s a c k h = (h .0, sym (mul-assoc (m * up e) c k) ∙ ap (λ (x : ℕ). x * k) (h .1) ∙ mul-right-comm a _ k)
 
 -- the fields of a pattern that is written as its sign and the other bits
-pub of-signed : (f : Format) (s : Bool) (n : ℕ) → n < top f → ofBits f (cond s (top f) 0 + n) ≡ ofFields f s (n / hid f) (n % hid f)
+of-signed : (f : Format) (s : Bool) (n : ℕ) → n < top f → ofBits f (cond s (top f) 0 + n) ≡ ofFields f s (n / hid f) (n % hid f)
 of-signed f s n h = of-pattern f (cond s (top f) 0 + n) ∙ go s
   where
     go : (s : Bool) → ofFields f (leb (top f) (cond s (top f) 0 + n)) ((cond s (top f) 0 + n) % top f / hid f) ((cond s (top f) 0 + n) % top f % hid f)
@@ -49,13 +49,13 @@ of-signed f s n h = of-pattern f (cond s (top f) 0 + n) ∙ go s
 -- ---- a normal f32 as an f64
 
 -- the bits of the f64, without the sign's
-abbrev pub in64 : ℕ → ℕ
+abbrev in64 : ℕ → ℕ
 in64 n = n * 2 ^ 29 + 0x3800_0000_0000_0000
 
 shuffle : (q a b c : ℕ) → q * a * (b * c) ≡ q * b * (a * c)
 shuffle q a b c = simp (mul-assoc, mul-left-comm)
 
-pub widened : (s : Bool) (n : ℕ) → 2 ^ 23 ≤ n → n < 0x7f80_0000 → signed s n ≡ ofBits binary64 (cond s (2 ^ 63) 0 + in64 n)
+widened : (s : Bool) (n : ℕ) → 2 ^ 23 ≤ n → n < 0x7f80_0000 → signed s n ≡ ofBits binary64 (cond s (2 ^ 63) 0 + in64 n)
 widened s n l h =
     same-value binary64 (signed s n) (ofBits binary64 (cond s (2 ^ 63) 0 + in64 n)) s ((2 ^ 23 + n % 2 ^ 23) * 2 ^ (n / 2 ^ 23 - 1) * 2 ^ 925)
     (fits-widens (signed s n) (ofBits-fits binary32 (cond s (2 ^ 31) 0 + n)))

@@ -430,7 +430,8 @@ pub fn sqrt32(x: f32) -> f32
     x
 }
 
-// The f32 nearest to x, as an f64: what `widen` makes of what `narrow` makes of x, rounded in place where that f32 is a normal number.
+// The f32 nearest to x, as an f64: what `widen` makes of what `narrow` makes of x; rounded in place where x is at least 2^-126 in size and no infinity is
+// nearest.
 pub fn round32(x: f64) -> f64
     ensures { λ r. ⌜ r ≡ rounded binary32 x ⌝ }
 {

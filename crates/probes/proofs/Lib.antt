@@ -1,5 +1,6 @@
 pub mod FiniteParts
 pub mod Stepping
+pub mod PoseAgain
 pub mod SharedSe3
 pub mod SharedGravity
 pub mod Shared

@@ -1,7 +1,7 @@
 -- The probes of Se3 from what they share. A transform made a pose and turned back keeps its translation, and has the quaternion of its rebuilt matrix.
 -- Assumes nothing.
 use mathlib.Core.Path.{_≡_, refl, sym, ap, _∙_}
-use mathlib.Core.Bool.{Bool, true, false, _&&_, true≢false}
+use mathlib.Core.Bool.{Bool, true, false, true≢false}
 use mathlib.Core.List.{List}
 use Prim.Native.Nat.{ℕ, zero, suc, _<_}
 use native.Mathlib.Omega.{arith}
@@ -12,29 +12,24 @@ use Rattle.numbers.specs.Notation.{if-then}
 use Rattle.numbers.specs.Walks.{every}
 use Rattle.numbers.specs.declared.Failure.the-variants.{Numerical}
 use Rattle.rotations.specs.Rotation.{vec, plus, matrixOf, turned, quatProduct, wide, finished, roundedQuat, product}
-use Rattle.rotations.specs.FromMatrix.{quatOfMatrix}
 use Rattle.rotations.specs.ExpLog.{expOf, moving}
-use Rattle.rotations.specs.declared.Vec3F32.{Vec3F32}
 use Rattle.rotations.specs.declared.Mat3.{Mat3}
-use Rattle.rotations.specs.declared.Mat3F32.{Mat3F32}
-use Rattle.rotations.specs.declared.QuatF32.{QuatF32}
 use Rattle.rotations.specs.declared.Transform.{Transform}
 use Rattle.rotations.specs.declared.Rigid.{Rigid}
 use Rattle.rotations.specs.declared.Pose.{Pose}
 use Rattle.rotations.specs.declared.Moved.the-variants as moved
-use Rattle.pose_conversion.specs.Conversions.{vecF32, vecF64, matF32, matF64, transformOf, rebuilt, poseOf, finite3, finitePose, finiteTransform}
-use Rattle.pose_conversion.specs.Conversions.{validTransform, validPose, checkedTransform, checkedPose, converting, restoring}
+use Rattle.pose_conversion.specs.Conversions.{vecF32, vecF64, matF32, matF64, rebuilt, poseOf, finitePose, finiteTransform}
+use Rattle.pose_conversion.specs.Conversions.{validPose, checkedTransform, checkedPose, converting, restoring}
 use Rattle.pose_conversion.specs.declared.Converted.{Converted}
 use Rattle.pose_conversion.specs.declared.Converted.the-variants as converted
 use Rattle.pose_conversion.specs.declared.Restored.the-variants as restored
 use Rattle.graph.specs.declared.Manifold.the-variants.{Se3}
 use Rattle.residual.specs.Retraction.{at, retractOf, retractSe3}
 use Rattle.probes.specs.Probes.{nudge, stepSize, probeOf, probesOf}
-use Rattle.probes.specs.Stances.{stepQuat, stepShift, stepBy, finiteMatrix, turnedBy, swingOf, settledBy, swungBy, joined}
+use Rattle.probes.specs.Stances.{stepQuat, stepShift, stepBy, settledBy, swungBy, joined}
 use Rattle.probes.specs.Stances.{stanceSe3, probeSe3, probeBy}
-use Rattle.probes.specs.declared.Swing.the-variants as swing
 use Rattle.numbers.proofs.Own.{rounded-twice}
-use Rattle.probes.proofs.FiniteParts.{finite-again}
+use Rattle.probes.proofs.PoseAgain.{pose-again}
 
 -- ---- numbers narrowed once stay what they are
 
@@ -59,69 +54,22 @@ narrow-matrix m =
 
 -- ---- a transform to a pose and back
 
--- the nine numbers of a matrix, then the three of a translation
-pub and-regroup : (a b c d : Bool) → (a && (b && (c && d))) ≡ ((a && (b && c)) && d)
-and-regroup true true c d = refl
-and-regroup true false c d = refl
-and-regroup false b c d = refl
+tested-twice : {A : Type 0} (b : Bool) (x y : A) → if-then b (if-then b x y) y ≡ if-then b x y
+unfolding if-then
+tested-twice true x y = refl
+tested-twice false x y = refl
 
-pub transform-finite : (q : QuatF32) (t : Vec3F32)
-    → finiteTransform (record { q = q; t = t }) ≡ (finiteMatrix (rebuilt (turnedBy q)) && finite3 t.x t.y t.z)
-unfolding finiteTransform finiteMatrix rebuilt wide
-transform-finite q t = go (rebuilt (turnedBy q))
-  where
-    go : (m : Mat3F32)
-        → (finite3 (m.x .x) (m.x .y) (m.x .z) && (finite3 (m.y .x) (m.y .y) (m.y .z) && (finite3 (m.z .x) (m.z .y) (m.z .z) && finite3 t.x t.y t.z)))
-        ≡ ((finite3 (m.x .x) (m.x .y) (m.x .z) && (finite3 (m.y .x) (m.y .y) (m.y .z) && finite3 (m.z .x) (m.z .y) (m.z .z))) && finite3 t.x t.y t.z)
-    go m = and-regroup (finite3 (m.x .x) (m.x .y) (m.x .z)) (finite3 (m.y .x) (m.y .y) (m.y .z)) (finite3 (m.z .x) (m.z .y) (m.z .z)) (finite3 t.x t.y t.z)
+-- the tests of a transform's pose are its own
+checked-once : (a : Transform) → checkedPose a ≡ validPose (poseOf a)
+unfolding checkedPose validPose finitePose finiteTransform poseOf matF64 vecF64
+checked-once a = tested-twice (finiteTransform a) (restored.Into (poseOf a)) (restored.Bad Numerical)
 
--- a pose's tests and a transform's are the same
-pose-finite : (a : Transform) → finitePose (poseOf a) ≡ finiteTransform a
-unfolding finitePose finiteTransform poseOf matF64 vecF64
-pose-finite a = refl
-
-rebuilt-by-turn : (a : Transform) → rebuilt (turnedBy (a .q)) ≡ rebuilt a
-unfolding rebuilt wide
-rebuilt-by-turn a = refl
-
--- m: the matrix is finite; k: that of its quaternion is; d: the translation is
-by-tests : (m k d : Bool) (f : Pose → Converted) {p : Pose} (q : QuatF32) (t : Vec3F32) → (k ≡ true → m ≡ true) → finite3 t.x t.y t.z ≡ d
-    → f p ≡ if-then (m && d) (if-then (k && d) (converted.Into (record { q = q; t = t })) (converted.Bad Numerical)) (converted.Bad Numerical)
-    → restoring (if-then (m && d) (if-then (m && d) (restored.Into p) (restored.Bad Numerical)) (restored.Bad Numerical)) f converted.Bad
-    ≡ joined (if-then k (swing.By q) swing.Lost) t
-unfolding restoring if-then joined
-by-tests true true true f q t h e g = g ∙ rw e
-by-tests true false true f q t h e g = g
-by-tests true true false f q t h e g = rw e
-by-tests true false false f q t h e g = refl
-by-tests false true d f q t h e g = absurd (true≢false (sym (h refl)))
-by-tests false false d f q t h e g = refl
-
-module _ (r : Rigid) where
-  abbrev b : Transform
-  b = finished r
-
-  again : transformOf (poseOf b) ≡ record { q = quatOfMatrix (rebuilt b); t = b .t }
-  unfolding transformOf poseOf rebuilt
-  again = rw (narrow-matrix (matrixOf (wide b .q)), narrow-translation r)
-
-  b-finite : finiteTransform b ≡ (finiteMatrix (rebuilt b) && finite3 (b .t .x) (b .t .y) (b .t .z))
-  b-finite = transform-finite (b .q) (b .t) ∙ ap (λ (m : Mat3F32). finiteMatrix m && finite3 (b .t .x) (b .t .y) (b .t .z)) (rebuilt-by-turn b)
-
-  there : checkedTransform (poseOf b)
-      ≡ if-then (finiteMatrix (rebuilt b) && finite3 (b .t .x) (b .t .y) (b .t .z))
-      (if-then (finiteMatrix (rebuilt (turnedBy (quatOfMatrix (rebuilt b)))) && finite3 (b .t .x) (b .t .y) (b .t .z))
-      (converted.Into (record { q = quatOfMatrix (rebuilt b); t = b .t })) (converted.Bad Numerical))
-      (converted.Bad Numerical)
-  unfolding checkedTransform validTransform
-  there = rw (pose-finite b, b-finite, again, transform-finite (quatOfMatrix (rebuilt b)) (b .t))
-
-  pub settled-again : restoring (checkedPose b) checkedTransform converted.Bad ≡ joined (settledBy (rebuilt b)) (b .t)
-  unfolding checkedPose validPose settledBy swingOf
-  settled-again =
-      rw (pose-finite b, b-finite)
-      (by-tests (finiteMatrix (rebuilt b)) (finiteMatrix (rebuilt (turnedBy (quatOfMatrix (rebuilt b))))) (finite3 (b .t .x) (b .t .y) (b .t .z))
-      checkedTransform (quatOfMatrix (rebuilt b)) (b .t) (finite-again (rebuilt b)) refl there)
+settled-again : (r : Rigid)
+    → joined (settledBy (rebuilt (finished r))) (finished r .t) ≡ restoring (checkedPose (finished r)) checkedTransform converted.Bad
+unfolding poseOf rebuilt
+settled-again r =
+    let b = finished r in
+    rw (checked-once b) (rw (narrow-matrix (matrixOf (wide b .q)), narrow-translation r) at (pose-again (matF64 (rebuilt b)) (vecF64 (b .t))))
 
 -- ---- one step from a transform
 
@@ -146,8 +94,8 @@ module _ (a : Transform) (c : ℕ) (ahead : Bool) where
   unfolding finished vecF32
   translation-is = refl
 
-  stepped : restoring (checkedPose (product a (stepBy c ahead))) checkedTransform converted.Bad
-      ≡ joined (swungBy (wide a .q) (stepQuat c ahead)) (vecF32 (plus (turned (matrixOf (wide a .q)) (stepShift c ahead)) (wide a .t)))
+  stepped : joined (swungBy (wide a .q) (stepQuat c ahead)) (vecF32 (plus (turned (matrixOf (wide a .q)) (stepShift c ahead)) (wide a .t)))
+      ≡ restoring (checkedPose (product a (stepBy c ahead))) checkedTransform converted.Bad
   unfolding swungBy
   stepped = rw (product-is, ← rebuilt-is, ← translation-is) (settled-again reached)
 
@@ -181,7 +129,7 @@ module _ (c : ℕ) (small : c < 6) (ahead : Bool) where
     probe-from (converted.Into a) =
         ap (λ s. joined s (vecF32 (plus (turned (matrixOf (wide a .q)) (stepShift c ahead)) (wide a .t))))
         (either (ltb c 3) (λ h. ap (swungBy (wide a .q)) (same-shift c small ahead h)))
-        ∙ sym (stepped a c ahead)
+        ∙ stepped a c ahead
 
     pub probe-se3 : (p : Pose) → probeBy (stanceSe3 (checkedTransform p)) c ahead ≡ probesOf Se3 p c ahead
     unfolding probeOf retractOf retractSe3 if-then moving

@@ -11,6 +11,7 @@ use lib.Ieee.Fits.{and-l, and-r}
 use Rattle.numbers.specs.Notation.{ratio, ratio32, if-then}
 use Rattle.numbers.specs.Numbers.{rounded}
 use Rattle.numbers.specs.Walks.{every}
+use Rattle.numbers.proofs.Tests.{and-first}
 use Rattle.rotations.specs.Rotation.{vec, dot, cross, plus, times, finished}
 use Rattle.rotations.specs.ExpLog.{over, series, squared, squarings, sineSeries, cosineSeries, turnBy, smallBend, bend, bent, turning, turnOf, movedBy, expOf}
 use Rattle.rotations.specs.declared.QuatF32.{QuatF32}
@@ -23,7 +24,7 @@ use Rattle.probes.specs.Probes.{nudge, stepSize}
 use Rattle.probes.specs.Stances.{stepQuat, stepShift, stepBy}
 
 -- exp of a step along axis c
-abbrev pub expStep : ℕ → Bool → Moved
+abbrev expStep : ℕ → Bool → Moved
 expStep c ahead = let δ = nudge c (stepSize ahead) in expOf (vec (at δ 0) (at δ 1) (at δ 2)) (vec (at δ 3) (at δ 4) (at δ 5))
 
 -- ---- whether a float is another, and a transform: a test, so that antt computes both sides
@@ -130,7 +131,7 @@ exp-step c l ahead = is-eq _ _ (each-axis (λ c b. T (is (expStep c b) (stepBy c
 
 -- ---- a step's numbers are finite: all six, and so the first four
 
-abbrev pub finiteStep : ℕ → ℕ → Bool → Bool
+abbrev finiteStep : ℕ → ℕ → Bool → Bool
 finiteStep n c ahead = every (λ j. finite (at (nudge c (stepSize ahead)) j)) n
 
 finite-steps : (ahead : Bool) → Sixfold (λ c b. finiteStep 6 c b ≡ true) ahead
@@ -141,10 +142,6 @@ finite-steps false = (refl, refl, refl, refl, refl, refl)
 pub finite-step : (c : ℕ) → c < 6 → (ahead : Bool) → finiteStep 6 c ahead ≡ true
 finite-step = each-axis (λ c ahead. finiteStep 6 c ahead ≡ true) finite-steps
 
-left-of : (a b : Bool) → (a && b) ≡ true → a ≡ true
-left-of true b e = refl
-left-of false b e = e
-
 pub finite-step-four : (c : ℕ) → c < 4 → (ahead : Bool) → finiteStep 4 c ahead ≡ true
 unfolding every
-finite-step-four c l ahead = left-of _ _ (left-of _ _ (finite-step c (omega arith) ahead))
+finite-step-four c l ahead = and-first _ _ (and-first _ _ (finite-step c (omega arith) ahead))

@@ -122,7 +122,7 @@ fn finite_matrix(m: Mat3F32) -> bool
 }
 
 // The matrix of a quaternion: that of a transform that doesn't move.
-fn again(q: QuatF32) -> Mat3F32
+fn matrix_again(q: QuatF32) -> Mat3F32
     ensures { λ r. ⌜ r ≡ rebuilt (turnedBy q) ⌝ }
 {
     let nowhere = Vec3F32 {
@@ -149,7 +149,7 @@ fn settled(m: Mat3F32) -> Swing
     ensures { λ r. ⌜ r ≡ settledBy m ⌝ }
 {
     let q = rotations::quat_of_matrix(m);
-    swing_of(q, again(q))
+    swing_of(q, matrix_again(q))
 }
 
 // The pose of quaternion q moved by a step of quaternion e.
@@ -174,8 +174,8 @@ fn swings_by(q: Quat, c: usize) -> Swings
     let b = pose_conversion::mat3_to_f32(b);
     let a = rotations::quat_of_matrix(a);
     let b = rotations::quat_of_matrix(b);
-    let m = again(a);
-    let n = again(b);
+    let m = matrix_again(a);
+    let n = matrix_again(b);
     Swings {
         ahead: swing_of(a, m),
         behind: swing_of(b, n),

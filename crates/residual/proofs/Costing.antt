@@ -24,7 +24,8 @@ use Rattle.residual.specs.declared.Cost.the-variants as cost
 use Rattle.residual.specs.Costs.{squareStep, priced, pricedFrom, priceAt, costFrom}
 
 -- ---- six squares; w is what the code found of the sum
-module _ (six : List Float) (c : Float) (j : ℕ) {s : Float} {w : Went} (i : each (squareStep six) j c ≡ done s) (e : w ≡ mustBeFinite (s ⊞ getD six j nan ⊠ getD six j nan)) where
+module _ (six : List Float) (c : Float) (j : ℕ) {s : Float} {w : Went} (i : each (squareStep six) j c ≡ done s)
+    (e : w ≡ mustBeFinite (s ⊞ getD six j nan ⊠ getD six j nan)) where
   square : (v : Went) → w ≡ v → squareStep six j s ≡ (v, s ⊞ getD six j nan ⊠ getD six j nan)
   unfolding squareStep
   square v h = rw (← e, h)
@@ -35,7 +36,8 @@ module _ (six : List Float) (c : Float) (j : ℕ) {s : Float} {w : Went} (i : ea
   pub square-stop : {why : Failure} → w ≡ Bad why → j < 6 → price.Bad why ≡ pricedFrom (well (each (squareStep six) 6 c))
   square-stop {why} h l = ap pricedFrom (each-early (squareStep six) c j 6 i (square (Bad why) h) l)
 
-pub square-end : (six : List Float) (c : Float) (j : ℕ) {s : Float} → each (squareStep six) j c ≡ done s → j ≡ 6 → price.Of s ≡ pricedFrom (well (each (squareStep six) 6 c))
+pub square-end : (six : List Float) (c : Float) (j : ℕ) {s : Float} → each (squareStep six) j c ≡ done s → j ≡ 6
+    → price.Of s ≡ pricedFrom (well (each (squareStep six) 6 c))
 square-end six c j i q = ap pricedFrom (each-all (squareStep six) c j 6 i q)
 
 -- ---- an edge from x to y, their slots, and what the code found of these
@@ -47,7 +49,8 @@ module _ (l : Links Edge) (pose : ℕ → Pose) (k : ℕ) (c : Float) {x y : ℕ
   pub passed-over : not (b || d) ≡ true → price.Of c ≡ pricedFrom (only (isActive l k) (priceAt l pose k) c)
   passed-over h = rw (← active, not-true (b || d) h)
 
-  pub counted : {p : Priced} → not (b || d) ≡ false → p ≡ pricedFrom (priced (residualOf (pose x) (pose y) (l .measured k)) c) → p ≡ pricedFrom (only (isActive l k) (priceAt l pose k) c)
+  pub counted : {p : Priced} → not (b || d) ≡ false → p ≡ pricedFrom (priced (residualOf (pose x) (pose y) (l .measured k)) c)
+      → p ≡ pricedFrom (only (isActive l k) (priceAt l pose k) c)
   unfolding priceAt
   counted h q = rw (← active, not-false (b || d) h, ← ex, ← ey) q
 

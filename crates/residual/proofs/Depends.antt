@@ -1,4 +1,5 @@
--- What the cost depends on: of an edge whether it is active, and where it is, the poses of its ends and what it measured. Not on numbers of edges or poses. Assumes nothing.
+-- What the cost depends on: of an edge whether it is active, and where it is, the poses of its ends and what it measured.
+-- Not on numbers of edges or poses. Assumes nothing.
 use mathlib.Core.Path.{_≡_, refl, ap, _∙_}
 use mathlib.Core.Bool.{Bool, true, false}
 use Prim.Native.Nat.{ℕ, _<_}

@@ -5,7 +5,7 @@ use mathlib.Core.Logic.{_⊎_, inl, inr}
 use mathlib.Core.Bool.{Bool, true, false}
 use mathlib.Core.List.{List, _++_}
 use native.Mathlib.Omega.{arith}
-use native.Mathlib.Nat.{ne-of-lt, ne-of-gt}
+use native.Mathlib.Nat.{ne-of-lt}
 use native.Mathlib.Numerals.{add-one}
 use borrow.Author.Count.{below-more}
 use borrow.Author.Tests.{ltb-true, ltb-false, lt-ltb, le-ltb}
@@ -76,7 +76,7 @@ unfolding withCell
 cell-pasted l e (Into a) = refl
 cell-pasted l e (Bad why) = refl
 
-pub apart : (k e : ℕ) → (k ≡ e → ⊥) → (k < e) ⊎ (e < k)
+apart : (k e : ℕ) → (k ≡ e → ⊥) → (k < e) ⊎ (e < k)
 apart k e h = go (ltb k e) (ltb e k) (ltb-true k e) (ltb-true e k) (ltb-false k e) (ltb-false e k)
   where
     go : (a b : Bool) → (a ≡ true → k < e) → (b ≡ true → e < k) → (a ≡ false → e ≤ k) → (b ≡ false → k ≤ e) → (k < e) ⊎ (e < k)
@@ -84,7 +84,7 @@ apart k e h = go (ltb k e) (ltb e k) (ltb-true k e) (ltb-true e k) (ltb-false k 
     go false true p q r s = inr (q refl)
     go false false p q r s = let x : e ≤ k = r refl in let y : k ≤ e = s refl in absurd (h (omega arith))
 
-pub cell-stows : (l : List Float) (e : ℕ) (x : Converted) → e * 8 + 8 ≤ length l → Stows l (withCell l e x) e x
+cell-stows : (l : List Float) (e : ℕ) (x : Converted) → e * 8 + 8 ≤ length l → Stows l (withCell l e x) e x
 cell-stows l e x b = subst (λ (m : List Float). Stows l m e x) (sym (cell-pasted l e x)) made
   where
     full : 8 ≤ length (eightOf x)
@@ -120,11 +120,11 @@ module _ (l₀ : List Float) (e : ℕ) (x : Converted) {ns : List Float} (n : ns
   put-all q = i ∙ ap (paste l₀ (e * 8) ns) q ∙ ap (λ (ns : List Float). paste l₀ (e * 8) ns 8) n ∙ sym (cell-pasted l₀ e x)
 
 -- ---- a cell replaced where it is lent
-pub stowing-in : (l : List Float) (e : ℕ) (x : Converted) → e < length l / 8 → stowing l e x ≡ withCell l e x
+stowing-in : (l : List Float) (e : ℕ) (x : Converted) → e < length l / 8 → stowing l e x ≡ withCell l e x
 unfolding stowing
 stowing-in l e x h = sym (taken l (lt-ltb e (length l / 8) h) refl)
 
-pub stowing-not : (l : List Float) (e : ℕ) (x : Converted) → length l / 8 ≤ e → stowing l e x ≡ l
+stowing-not : (l : List Float) (e : ℕ) (x : Converted) → length l / 8 ≤ e → stowing l e x ≡ l
 unfolding stowing
 stowing-not l e x h = sym (left (withCell l e x) (le-ltb e (length l / 8) h) refl)
 
@@ -145,13 +145,6 @@ stowing-length l e x = go (stowed-or-same l e x)
     go : (Stows l (stowing l e x) e x) ⊎ (stowing l e x ≡ l) → length (stowing l e x) ≡ length l
     go (inl h) = h .len
     go (inr h) = ap length h
-
-pub stowing-other : (l : List Float) (e : ℕ) (x : Converted) (k : ℕ) → (k ≡ e → ⊥) → stowedIn (stowing l e x) k ≡ stowedIn l k
-stowing-other l e x k d = go (stowed-or-same l e x)
-  where
-    go : (Stows l (stowing l e x) e x) ⊎ (stowing l e x ≡ l) → stowedIn (stowing l e x) k ≡ stowedIn l k
-    go (inl h) = h .there k d
-    go (inr h) = ap (λ (l : List Float). stowedIn l k) h
 
 -- how the code reads a cell
 module _ (r : Edge) where
@@ -193,14 +186,6 @@ with-bases poses (suc n) l h =
 
     holds : Stows m (stowing m n y) n y
     holds = stowing-stows m n y (subst (λ (k : ℕ). n < k / 8) (sym (with-bases-length poses n l)) (omega arith))
-
-pub with-bases-rest : (poses : List Float) (n : ℕ) (l : List Float) (k : ℕ) → n ≤ k → stowedIn (withBases poses n l) k ≡ stowedIn l k
-unfolding withBases
-with-bases-rest poses zero l k q = refl
-with-bases-rest poses (suc n) l k q =
-    let o : n < k = omega arith in
-    stowing-other (withBases poses n l) n (checkedTransform (poseAt poses n)) k (ne-of-gt o)
-    ∙ with-bases-rest poses n l k (omega arith)
 
 pub with-bases-more : (poses : List Float) (n : ℕ) (l : List Float) {m m' : List Float} {y : Converted} {p : Pose}
     → m ≡ withBases poses n l → m' ≡ stowing m n y → y ≡ checkedTransform p → p ≡ poseAt poses n → m' ≡ withBases poses (n + 1) l

@@ -1,5 +1,5 @@
 -- Transforms that could be had, or not, stowed in a list of numbers: eight a cell, quaternion, translation, and whether it could be had. The first cells
--- are of the first poses. Definitions only.
+-- are of the first poses. Definitions only; `proofs/Stowing` says that cells stand for what was put into them.
 use Prim.Native.Nat.{ℕ, zero, suc, _+_, _*_, _/_, _<_}
 use mathlib.Core.Path.{_≡_}
 use mathlib.Core.List.{List, [], _∷_, _++_}

@@ -385,7 +385,7 @@ fn tie(link: Link) -> Linked
 }
 
 // An edge from a to b with its residual. The weight, what was measured, b and a are asked in this order.
-pub fn linked_of(a: Converted, b: Converted, edge: Edge) -> Linked
+fn linked_of(a: Converted, b: Converted, edge: Edge) -> Linked
     ensures { λ r. ⌜ r ≡ linkedOf a b edge ⌝ }
 {
     let undone = match undone_of(edge) {

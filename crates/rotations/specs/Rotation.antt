@@ -94,7 +94,7 @@ finished a =
       t = record { x = narrowed (a.t .x); y = narrowed (a.t .y); z = narrowed (a.t .z) };
     }
 
--- the numbers of a vector and of a quaternion narrowed; where a transform's own are meant, they are held as f64
+-- each number of a vector and of a quaternion narrowed: the numbers that a transform would hold, as f64
 unfoldable pub roundedVec : Vec3 → Vec3
 roundedVec v = vec (narrowed v.x) (narrowed v.y) (narrowed v.z)
 

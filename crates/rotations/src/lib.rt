@@ -676,7 +676,7 @@ pub fn log_at(k: LogTurn, t: Vec3) -> WideTwist
 }
 
 // log before its six numbers are narrowed.
-pub fn log_wide(a: Transform) -> WideTwist
+fn log_wide(a: Transform) -> WideTwist
     ensures { λ r. ⌜ r ≡ logWide a ⌝ }
 {
     let u = widened(a);

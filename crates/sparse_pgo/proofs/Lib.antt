@@ -1,4 +1,5 @@
 pub mod Steps
+pub mod Sizes
 pub mod Halves
 pub mod Trials
 pub mod Commits

@@ -2,7 +2,7 @@
 use mathlib.Core.Path.{_≡_, refl, ap, _∙_}
 use mathlib.Core.Bool.{Bool, true, false}
 use mathlib.Core.List.{List}
-use Prim.Native.Nat.{ℕ, _+_, _*_, _/_, _%_, _<_, _≤_}
+use Prim.Native.Nat.{ℕ, _+_, _*_, _/_, _%_, _<_}
 use native.Mathlib.Nat.{div-add-mod', mul-comm}
 use native.Mathlib.Omega.{arith}
 use borrow.Author.Tests.{ltb-true}
@@ -16,16 +16,11 @@ use Rattle.numbers.proofs.Walking.{every-ext}
 use Rattle.numbers.proofs.Tables.{length-table, getD-table, table-ext}
 use Rattle.graph.specs.Lent.{dofOf, none, slotIn}
 use Rattle.graph.specs.declared.Manifold.{Manifold}
-use Rattle.graph.specs.declared.Manifold.the-variants.{Se3, Gravity}
 use Rattle.graph.specs.declared.Slot.{Slot}
 use Rattle.graph.specs.declared.Slot.the-variants.{Block, Fixed}
 use Rattle.sparse_pgo.specs.Numerics.{normOf, partOf, movesBy, numberBy, moves, movedNumbers}
 use Rattle.sparse_pgo.specs.Turns.{Beside}
 use Rattle.numbers.proofs.Walking.{sum-ext}
-
-pub dof-most : (m : Manifold) → dofOf m ≤ 6
-dof-most Se3 = omega arith
-dof-most (Gravity g) = omega arith
 
 -- a block is below the free count
 pub slot-below : (blocks : List ℕ) (free x b : ℕ) → slotIn blocks free x ≡ Block b → b < free

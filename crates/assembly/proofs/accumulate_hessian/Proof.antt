@@ -31,19 +31,28 @@ same-length c = search needs
 
 returns : tie.Need-returns Inv-loop μ-loop
 unfolding blockOf
-returns c = let l = c .before .before .before .before .before .before .before .before .loop in each-early _ _ _ _ (l .inv .2) (answered (c .before .before .before .before .before .accumulate-row .ensures) (c .before .why .given .1)) (c .before .before .before .before .before .before .before .loop-test .taken)
+returns c =
+    let walk = c .before .before .before .before .before .before .before in
+    each-early _ _ _ _ (walk .before .loop .inv .2)
+    (answered (c .before .before .before .before .before .accumulate-row .ensures) (c .before .why .given .1))
+    (walk .loop-test .taken)
 
 enum-told : tie.Need-enum-told Inv-loop μ-loop
 enum-told c = search needs
 
 add-r : tie.Need-add-r Inv-loop μ-loop
-add-r c = search needs
+add-r c = omega arith
 
 loop-less : tie.Need-loop-less Inv-loop μ-loop
-loop-less c = search needs
+loop-less c = omega arith
 
 loop-again : tie.Need-loop-again Inv-loop μ-loop
-loop-again c = let l = c .before .before .before .before .before .before .before .loop in (omega arith, omega arith, each-more _ _ _ (l .inv .2) (answered (c .before .before .before .before .accumulate-row .ensures) (c .enum-told .given .1)))
+loop-again c = (
+  omega arith,
+  omega arith,
+  each-more _ _ _ (c .before .before .before .before .before .before .before .loop .inv .2)
+      (answered (c .before .before .before .before .accumulate-row .ensures) (c .enum-told .given .1)),
+)
 
 same-length-2 : tie.Need-same-length-2 Inv-loop μ-loop
 same-length-2 c = search needs

@@ -11,7 +11,9 @@ use Rattle.assembly.proofs.accumulate_row.Statement.{statement}
 use Rattle.assembly.proofs.accumulate_row.Tie as tie
 
 abbrev Inv-loop : tie.InvT-loop
-Inv-loop w₀ n dof rb cb jr jc r c₀ w c = (c ≤ dof) × (length w ≡ length w₀) × (each (λ c. entryOf lowerTriangle n (rb * dof + r) (cb * dof + c) jr r jc c) c w₀ ≡ done w)
+Inv-loop w₀ n dof rb cb jr jc r c₀ w c =
+    (c ≤ dof) × (length w ≡ length w₀)
+    × (each (λ c. entryOf lowerTriangle n (rb * dof + r) (cb * dof + c) jr r jc c) c w₀ ≡ done w)
 
 abbrev μ-loop : tie.MeasureT-loop
 μ-loop w₀ n dof rb cb jr jc r c₀ w c = dof - c
@@ -21,16 +23,16 @@ unfolding each
 loop-holds c = search needs
 
 mul-add-entry : tie.Need-mul-add-entry Inv-loop μ-loop
-mul-add-entry c = search needs
+mul-add-entry c = omega arith
 
 add-add-entry : tie.Need-add-add-entry Inv-loop μ-loop
-add-add-entry c = search needs
+add-add-entry c = omega arith
 
 mul-add-entry-2 : tie.Need-mul-add-entry-2 Inv-loop μ-loop
-mul-add-entry-2 c = search needs
+mul-add-entry-2 c = omega arith
 
 add-add-entry-2 : tie.Need-add-add-entry-2 Inv-loop μ-loop
-add-add-entry-2 c = search needs
+add-add-entry-2 c = omega arith
 
 add-entry-requires : tie.Need-add-entry-requires Inv-loop μ-loop
 add-entry-requires c κs = search needs
@@ -43,19 +45,28 @@ same-length c = search needs
 
 returns : tie.Need-returns Inv-loop μ-loop
 unfolding rowOf
-returns c = let l = c .before .before .before .before .before .before .before .before .loop in each-early _ _ _ _ (l .inv .2) (answered (c .before .before .before .before .before .add-entry .ensures) (c .before .why .given .1)) (c .before .before .before .before .before .before .before .loop-test .taken)
+returns c =
+    let walk = c .before .before .before .before .before .before .before in
+    each-early _ _ _ _ (walk .before .loop .inv .2)
+    (answered (c .before .before .before .before .before .add-entry .ensures) (c .before .why .given .1))
+    (walk .loop-test .taken)
 
 enum-told : tie.Need-enum-told Inv-loop μ-loop
 enum-told c = search needs
 
 add-c : tie.Need-add-c Inv-loop μ-loop
-add-c c = search needs
+add-c c = omega arith
 
 loop-less : tie.Need-loop-less Inv-loop μ-loop
-loop-less c = search needs
+loop-less c = omega arith
 
 loop-again : tie.Need-loop-again Inv-loop μ-loop
-loop-again c = let l = c .before .before .before .before .before .before .before .loop in (omega arith, omega arith, each-more _ _ _ (l .inv .2) (answered (c .before .before .before .before .add-entry .ensures) (c .enum-told .given .1)))
+loop-again c = (
+  omega arith,
+  omega arith,
+  each-more _ _ _ (c .before .before .before .before .before .before .before .loop .inv .2)
+      (answered (c .before .before .before .before .add-entry .ensures) (c .enum-told .given .1)),
+)
 
 same-length-2 : tie.Need-same-length-2 Inv-loop μ-loop
 same-length-2 c = search needs

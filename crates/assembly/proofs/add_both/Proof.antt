@@ -1,16 +1,9 @@
 use Rattle.assembly.proofs.Edges.{both-lost, both-no-a, both-no-b, both-had}
-use Rattle.assembly.proofs.Going.{dof-small}
+use Rattle.graph.proofs.Answers.{dof-most}
 use Rattle.assembly.specs.Known.{stowedProbes}
 use borrow.Author.Needs.{needs}
 use Rattle.assembly.proofs.add_both.Statement.{statement}
 use Rattle.assembly.proofs.add_both.Tie as tie
-use Rattle.assembly.proofs.add_both.Reads as reads
-use Rattle.assembly.proofs.add_both.Lts as lts
-use Rattle.assembly.proofs.add_ends.Reads as add-ends-reads
-use Rattle.assembly.proofs.edge_endpoint_jacobian.Reads as edge-endpoint-jacobian-reads
-use Rattle.assembly.proofs.went_of.Reads as went-of-reads
-use Rattle.graph.proofs.dof.Reads as dof-reads
-use Rattle.residual.proofs.six_of.Reads as six-of-reads
 
 enum-known-linked : tie.Need-enum-known-linked
 enum-known-linked c = search needs
@@ -32,8 +25,11 @@ enum-known-why c = search needs
 
 returns : tie.Need-returns
 returns c =
-    let a = c .before .before .before .before .before .before .before .before .before .before .before .before .args in
-    both-no-a (a .m) (a .n) (stowedProbes (a .known .now) (a .a)) (stowedProbes (a .known .now) (a .b)) (a .linked) (a .i) (a .k) (a .w .now) (c .before .before .before .before .before .before .before .before .linked2 .given .1) (c .before .before .before .before .edge-endpoint-jacobian .ensures) (c .before .before .before .went-of .ensures) (c .before .why .given .1)
+    let first = c .before .before .before in
+    let by = first .before .before .before .before .before in
+    let a = by .before .before .before .before .args in
+    both-no-a (a .m) (a .n) (stowedProbes (a .known .now) (a .a)) (stowedProbes (a .known .now) (a .b)) (a .linked) (a .i) (a .k) (a .w .now)
+    (by .linked2 .given .1) (first .before .edge-endpoint-jacobian .ensures) (first .went-of .ensures) (c .before .why .given .1)
 
 enum-told : tie.Need-enum-told
 enum-told c = search needs
@@ -49,8 +45,14 @@ enum-known-why-2 c = search needs
 
 returns-2 : tie.Need-returns-2
 returns-2 c =
-    let a = c .before .before .before .before .before .before .before .before .before .before .before .before .before .before .before .before .before .args in
-    both-no-b (a .m) (a .n) (stowedProbes (a .known .now) (a .a)) (stowedProbes (a .known .now) (a .b)) (a .linked) (a .i) (a .k) (a .w .now) (c .before .before .before .before .before .before .before .before .before .before .before .before .before .linked2 .given .1) (c .before .before .before .before .before .before .before .before .before .edge-endpoint-jacobian .ensures) (c .before .before .before .before .before .before .before .before .went-of .ensures) (c .before .before .before .before .before .before .enum-told .given .1) (c .before .before .before .before .edge-endpoint-jacobian2 .ensures) (c .before .before .before .went-of2 .ensures) (c .before .why2 .given .1)
+    let second = c .before .before .before in
+    let told = second .before .before .before in
+    let first = told .before .before in
+    let by = first .before .before .before .before .before in
+    let a = by .before .before .before .before .args in
+    both-no-b (a .m) (a .n) (stowedProbes (a .known .now) (a .a)) (stowedProbes (a .known .now) (a .b)) (a .linked) (a .i) (a .k) (a .w .now)
+    (by .linked2 .given .1) (first .before .edge-endpoint-jacobian .ensures) (first .went-of .ensures) (told .enum-told .given .1)
+    (second .before .edge-endpoint-jacobian2 .ensures) (second .went-of2 .ensures) (c .before .why2 .given .1)
 
 enum-told-2 : tie.Need-enum-told-2
 enum-told-2 c = search needs
@@ -60,22 +62,33 @@ dof-requires c κs = search needs
 
 add-ends-requires : tie.Need-add-ends-requires
 add-ends-requires c κs =
-    let a = c .before .before .before .before .before .before .before .before .before .before .before .before .before .before .before .before .before .before .before .before .before .args in
-    let pre = c .before .before .before .before .before .before .before .before .before .before .before .before .before .before .before .before .before .before .before .before .before .pre in
-    rw (c .before .before .before .dof .ensures) (pre .0, pre .1, pre .7, dof-small (a .m))
+    let first = c .before .before .before .before .before .before .before .before .before .before .before .before .before in
+    let start = first .before .before .before .before .before .before .before .before in
+    let pre = start .pre in
+    rw (c .before .before .before .dof .ensures) (pre .0, pre .1, pre .7, dof-most (start .args .m))
 
 returns-3 : tie.Need-returns-3
 returns-3 c =
     let a = c .before .before .before .before .before .args in
-    both-lost (a .m) (a .n) (stowedProbes (a .known .now) (a .a)) (stowedProbes (a .known .now) (a .b)) (a .linked) (a .i) (a .k) (a .w .now) (c .before .linked .given .1)
+    both-lost (a .m) (a .n) (stowedProbes (a .known .now) (a .a)) (stowedProbes (a .known .now) (a .b)) (a .linked) (a .i) (a .k) (a .w .now)
+    (c .before .linked .given .1)
 
 same-length : tie.Need-same-length
 same-length c = search needs
 
 returns-4 : tie.Need-returns-4
 returns-4 c =
-    let a = c .before .before .before .before .before .before .before .before .before .before .before .before .before .before .before .before .before .before .before .before .before .before .before .before .args in
-    both-had (a .m) (a .n) (stowedProbes (a .known .now) (a .a)) (stowedProbes (a .known .now) (a .b)) (a .linked) (a .i) (a .k) (a .w .now) (c .before .before .before .before .before .before .before .before .before .before .before .before .before .before .before .before .before .before .before .before .linked2 .given .1) (c .before .before .before .before .before .before .before .before .before .before .before .before .before .before .before .before .edge-endpoint-jacobian .ensures) (c .before .before .before .before .before .before .before .before .before .before .before .before .before .before .before .went-of .ensures) (c .before .before .before .before .before .before .before .before .before .before .before .before .before .enum-told .given .1) (c .before .before .before .before .before .before .before .before .before .before .before .edge-endpoint-jacobian2 .ensures) (c .before .before .before .before .before .before .before .before .before .before .went-of2 .ensures) (c .before .before .before .before .before .before .before .before .enum-told2 .given .1) (c .before .before .before .before .before .before .before .before .before .before .before .before .before .before .before .before .before .before .six-of .ensures) (c .before .before .before .before .before .before .dof .ensures) (c .before .before .add-ends .ensures)
+    let dof = c .before .before .before .before .before .before in
+    let told2 = dof .before .before in
+    let second = told2 .before .before in
+    let told = second .before .before .before in
+    let first = told .before .before in
+    let by = first .before .before .before .before .before in
+    let a = by .before .before .before .before .args in
+    both-had (a .m) (a .n) (stowedProbes (a .known .now) (a .a)) (stowedProbes (a .known .now) (a .b)) (a .linked) (a .i) (a .k) (a .w .now)
+    (by .linked2 .given .1) (first .before .edge-endpoint-jacobian .ensures) (first .went-of .ensures) (told .enum-told .given .1)
+    (second .before .edge-endpoint-jacobian2 .ensures) (second .went-of2 .ensures) (told2 .enum-told2 .given .1)
+    (first .before .before .before .six-of .ensures) (dof .dof .ensures) (c .before .before .add-ends .ensures)
 
 pub add-both-spec : {M : Type 1} → statement M
 add-both-spec =

@@ -1,5 +1,6 @@
 use borrow.Author.Needs.{needs}
-use Rattle.assembly.proofs.Edges.{edgeStep, answered, bad-edge, all-edges}
+use Rattle.assembly.proofs.Edges.{answered, bad-edge, all-edges}
+use Rattle.assembly.specs.Assembly.{lowerTriangle, edgeStep}
 use Rattle.graph.specs.Lent.{poseAt, lentLinks}
 use Rattle.numbers.proofs.Walking.{each-none, each-more}
 use Rattle.numbers.specs.Walks.{each, done}
@@ -9,12 +10,11 @@ use mathlib.Core.Path.{_≡_, refl}
 use Prim.Native.Nat.{_≤_, _-_}
 use Rattle.assembly.proofs.add_edges.Statement.{statement}
 use Rattle.assembly.proofs.add_edges.Tie as tie
-use Rattle.assembly.proofs.add_edges.Reads as reads
-use Rattle.assembly.proofs.add_edges.Lts as lts
-use Rattle.assembly.proofs.add_edge_at.Reads as add-edge-at-reads
 
 abbrev Inv-loop : tie.InvT-loop
-Inv-loop w₀ shape known poses ends edges blocks k₀ k-end w k = (k ≤ k-end) × (length w ≡ length w₀) × (each (edgeStep (shape .manifold) (shape .n) (lentLinks ends edges blocks (shape .free)) (poseAt poses)) k w₀ ≡ done w)
+Inv-loop w₀ shape known poses ends edges blocks k₀ k-end w k =
+    (k ≤ k-end) × (length w ≡ length w₀)
+    × (each (edgeStep lowerTriangle (shape .manifold) (shape .n) (lentLinks ends edges blocks (shape .free)) (poseAt poses)) k w₀ ≡ done w)
 
 abbrev μ-loop : tie.MeasureT-loop
 μ-loop w₀ shape known poses ends edges blocks k₀ k-end w k = k-end - k
@@ -32,19 +32,27 @@ same-length : tie.Need-same-length Inv-loop μ-loop
 same-length c = search needs
 
 returns : tie.Need-returns Inv-loop μ-loop
-returns c = bad-edge _ _ (c .before .before .before .before .before .before .before .before .loop .k) _ (c .before .before .before .before .before .before .before .before .loop .inv .2) (c .before .before .before .before .before .add-edge-at .ensures) (c .before .why .given .1) (c .before .before .before .before .before .before .before .loop-test .taken)
+returns c =
+    let walk = c .before .before .before .before .before .before .before in
+    let l = walk .before .loop in
+    bad-edge _ _ (l .k) _ (l .inv .2) (c .before .before .before .before .before .add-edge-at .ensures) (c .before .why .given .1) (walk .loop-test .taken)
 
 enum-told : tie.Need-enum-told Inv-loop μ-loop
 enum-told c = search needs
 
 add-k : tie.Need-add-k Inv-loop μ-loop
-add-k c = search needs
+add-k c = omega arith
 
 loop-less : tie.Need-loop-less Inv-loop μ-loop
-loop-less c = search needs
+loop-less c = omega arith
 
 loop-again : tie.Need-loop-again Inv-loop μ-loop
-loop-again c = (omega arith, omega arith, each-more _ _ _ (c .before .before .before .before .before .before .before .loop .inv .2) (answered (c .before .before .before .before .add-edge-at .ensures) (c .enum-told .given .1)))
+loop-again c = (
+  omega arith,
+  omega arith,
+  each-more _ _ _ (c .before .before .before .before .before .before .before .loop .inv .2)
+      (answered (c .before .before .before .before .add-edge-at .ensures) (c .enum-told .given .1)),
+)
 
 same-length-2 : tie.Need-same-length-2 Inv-loop μ-loop
 same-length-2 c = search needs

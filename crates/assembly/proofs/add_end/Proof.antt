@@ -1,25 +1,26 @@
+use native.Mathlib.Omega.{arith}
 use Rattle.assembly.proofs.Laws.{end-failed, end-went}
 use borrow.Author.Needs.{needs}
 use Rattle.assembly.proofs.add_end.Statement.{statement}
 use Rattle.assembly.proofs.add_end.Tie as tie
 
 mul-at : tie.Need-mul-at
-mul-at c = search needs
+mul-at c = omega arith
 
 add-at : tie.Need-add-at
-add-at c = search needs
+add-at c = omega arith
 
 mul-at-2 : tie.Need-mul-at-2
-mul-at-2 c = search needs
+mul-at-2 c = omega arith
 
 add-at-2 : tie.Need-add-at-2
-add-at-2 c = search needs
+add-at-2 c = omega arith
 
 mul-accumulate-gradient : tie.Need-mul-accumulate-gradient
-mul-accumulate-gradient c = search needs
+mul-accumulate-gradient c = omega arith
 
 sub-accumulate-gradient : tie.Need-sub-accumulate-gradient
-sub-accumulate-gradient c = search needs
+sub-accumulate-gradient c = omega arith
 
 part-accumulate-gradient-start : tie.Need-part-accumulate-gradient-start
 part-accumulate-gradient-start c = search needs
@@ -37,7 +38,10 @@ same-length : tie.Need-same-length
 same-length c = search needs
 
 returns : tie.Need-returns
-returns c = search end-failed
+returns c =
+    let a = c .before .before .before .before .before .before .before .before .args in
+    end-failed (a .n) (a .dof) (a .b) (a .j .now) (a .r .now) (a .w .now) (c .before .before .before .before .before .accumulate-gradient .ensures)
+    (c .before .why .given .1)
 
 enum-told : tie.Need-enum-told
 enum-told c = search needs
@@ -49,7 +53,11 @@ same-length-2 : tie.Need-same-length-2
 same-length-2 c = search needs
 
 returns-2 : tie.Need-returns-2
-returns-2 c = search end-went
+returns-2 c =
+    let a = c .before .before .before .before .before .before .before .before .before .before .before .args in
+    end-went (a .n) (a .dof) (a .b) (a .j .now) (a .r .now) (a .w .now)
+    (c .before .before .before .before .before .before .before .before .accumulate-gradient .ensures)
+    (c .before .before .before .before .enum-told .given .1) (c .before .before .accumulate-hessian .ensures)
 
 pub add-end-spec : {M : Type 1} → statement M
 add-end-spec =

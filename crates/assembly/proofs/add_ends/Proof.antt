@@ -28,7 +28,11 @@ same-length-2 : tie.Need-same-length-2
 same-length-2 c = search needs
 
 returns-2 : tie.Need-returns-2
-returns-2 c = ends-lost-b _ _ _ _ _ _ _ _ (c .before .before .before .before .before .before .before .before .before .before .before .add-end .ensures) (c .before .before .before .before .before .before .before .enum-told .given .1) (c .before .before .before .before .before .add-end2 .ensures) (c .before .why2 .given .1)
+returns-2 c =
+    let second = c .before .before .before .before .before in
+    let told = second .before .before in
+    ends-lost-b _ _ _ _ _ _ _ _ (told .before .before .before .before .add-end .ensures) (told .enum-told .given .1) (second .add-end2 .ensures)
+    (c .before .why2 .given .1)
 
 enum-told-2 : tie.Need-enum-told-2
 enum-told-2 c = search needs
@@ -40,7 +44,12 @@ same-length-3 : tie.Need-same-length-3
 same-length-3 c = search needs
 
 returns-3 : tie.Need-returns-3
-returns-3 c = ends-had _ _ _ _ _ _ _ _ (c .before .before .before .before .before .before .before .before .before .before .before .before .before .before .add-end .ensures) (c .before .before .before .before .before .before .before .before .before .before .enum-told .given .1) (c .before .before .before .before .before .before .before .before .add-end2 .ensures) (c .before .before .before .before .enum-told2 .given .1) (c .before .before .add-cross .ensures)
+returns-3 c =
+    let told2 = c .before .before .before .before in
+    let second = told2 .before .before .before .before in
+    let told = second .before .before in
+    ends-had _ _ _ _ _ _ _ _ (told .before .before .before .before .add-end .ensures) (told .enum-told .given .1) (second .add-end2 .ensures)
+    (told2 .enum-told2 .given .1) (c .before .before .add-cross .ensures)
 
 pub add-ends-spec : {M : Type 1} → statement M
 add-ends-spec =

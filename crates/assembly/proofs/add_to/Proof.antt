@@ -1,19 +1,20 @@
+use native.Mathlib.Omega.{arith}
 use Rattle.assembly.specs.Assembly.{addTo}
 use borrow.Author.Needs.{needs}
 use Rattle.assembly.proofs.add_to.Statement.{statement}
 use Rattle.assembly.proofs.add_to.Tie as tie
 
 mul-s : tie.Need-mul-s
-mul-s c = search needs
+mul-s c = omega arith
 
 slice-read-s : tie.Need-slice-read-s
-slice-read-s c = search needs
+slice-read-s c = omega arith
 
 mul-w : tie.Need-mul-w
-mul-w c = search needs
+mul-w c = omega arith
 
 slice-write-w : tie.Need-slice-write-w
-slice-write-w c = search needs
+slice-write-w c = omega arith
 
 must-be-finite-requires : tie.Need-must-be-finite-requires
 must-be-finite-requires c κs = search needs

@@ -20,19 +20,22 @@ loop-holds : tie.Need-loop-holds Inv-loop μ-loop
 loop-holds c = search needs
 
 mul-w : tie.Need-mul-w Inv-loop μ-loop
-mul-w c = search needs
+mul-w c = omega arith
 
 slice-write-w : tie.Need-slice-write-w Inv-loop μ-loop
-slice-write-w c = search needs
+slice-write-w c = omega arith
 
 add-i : tie.Need-add-i Inv-loop μ-loop
-add-i c = search needs
+add-i c = omega arith
 
 loop-less : tie.Need-loop-less Inv-loop μ-loop
-loop-less c = search needs
+loop-less c = omega arith
 
 loop-again : tie.Need-loop-again Inv-loop μ-loop
-loop-again c = let a = c .before .before .args in let l = c .before .loop in (omega arith, simp length-set (l .inv .1), rw (literal-zero, l .inv .2) (fill-more (l .i) (num 0) (a .w .now) (omega arith)))
+loop-again c =
+    let l = c .before .loop in
+    let a = c .before .before .args in
+    (omega arith, simp length-set (l .inv .1), rw (literal-zero, l .inv .2) (fill-more (l .i) (num 0) (a .w .now) (omega arith)))
 
 same-length : tie.Need-same-length Inv-loop μ-loop
 same-length c = search needs

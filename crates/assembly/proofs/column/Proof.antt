@@ -20,8 +20,9 @@ column-by-requires c κs = search needs
 
 returns : tie.Need-returns
 returns c =
-    let a = c .before .before .before .before .before .args in
-    column-had _ _ (a .c) (a .ahead) (a .behind) (c .before .before .before .before .before .pre) (c .before .before .before .before .widened .ensures) (c .before .before .before .widened2 .ensures)
+    let start = c .before .before .before .before .before in
+    column-had _ _ (start .args .c) (start .args .ahead) (start .args .behind) (start .pre)
+    (c .before .before .before .before .widened .ensures) (c .before .before .before .widened2 .ensures)
     (c .before .before .hinges-along .ensures) (c .before .residuals-at .ensures) (c .column-by .ensures)
 
 pub column-spec : {M : Type 1} → statement M

@@ -4,33 +4,32 @@ use native.Mathlib.Omega.{arith}
 use Rattle.graph.specs.declared.Edge.{Edge}
 use Rattle.residual.specs.Stowed.{stowedFrom}
 use Rattle.assembly.specs.FromParts.{columnIn}
-use borrow.Author.Needs.{needs}
 use Rattle.assembly.proofs.column_at.Statement.{statement}
 use Rattle.assembly.proofs.column_at.Tie as tie
 
 mul-stowed-at : tie.Need-mul-stowed-at
-mul-stowed-at c = search needs
+mul-stowed-at c = omega arith
 
 add-stowed-at : tie.Need-add-stowed-at
-add-stowed-at c = search needs
+add-stowed-at c = omega arith
 
 add-stowed-at-2 : tie.Need-add-stowed-at-2
-add-stowed-at-2 c = search needs
+add-stowed-at-2 c = omega arith
 
 stowed-at-requires : tie.Need-stowed-at-requires
 stowed-at-requires c κs = let n = c .before .pre .2 in omega arith
 
 mul-stowed-at-2 : tie.Need-mul-stowed-at-2
-mul-stowed-at-2 c = search needs
+mul-stowed-at-2 c = omega arith
 
 add-stowed-at-3 : tie.Need-add-stowed-at-3
-add-stowed-at-3 c = search needs
+add-stowed-at-3 c = omega arith
 
 add-stowed-at-4 : tie.Need-add-stowed-at-4
-add-stowed-at-4 c = search needs
+add-stowed-at-4 c = omega arith
 
 add-stowed-at-5 : tie.Need-add-stowed-at-5
-add-stowed-at-5 c = search needs
+add-stowed-at-5 c = omega arith
 
 stowed-at-requires-2 : tie.Need-stowed-at-requires-2
 stowed-at-requires-2 c κs = let n = c .before .before .pre .2 in omega arith
@@ -38,7 +37,10 @@ stowed-at-requires-2 c κs = let n = c .before .before .pre .2 in omega arith
 column-requires : tie.Need-column-requires
 column-requires c κs =
     let shared = c .before .before .before .pre .3 in
-    λ q t. (λ e. shared q true t (sym (ap stowedFrom (c .before .stowed-at .ensures)) ∙ e), λ e. shared q false t (sym (ap stowedFrom (c .stowed-at2 .ensures)) ∙ e))
+    λ q. (
+      λ t e. shared q true t (sym (ap stowedFrom (c .before .stowed-at .ensures)) ∙ e),
+      λ t e. shared q false t (sym (ap stowedFrom (c .stowed-at2 .ensures)) ∙ e),
+    )
 
 returns : tie.Need-returns
 returns c =

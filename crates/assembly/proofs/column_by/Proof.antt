@@ -23,7 +23,9 @@ enum-known-first-2 : tie.Need-enum-known-first-2
 enum-known-first-2 c = search needs
 
 returns-2 : tie.Need-returns-2
-returns-2 c = by-lost-ahead _ _ _ _ (sym (c .before .before .before .before .before .stowed-from .ensures) ∙ c .before .before .before .enum-told .given .1) (c .before .first2 .given .1)
+returns-2 c =
+    let told = c .before .before .before in
+    by-lost-ahead _ _ _ _ (sym (told .before .before .stowed-from .ensures) ∙ told .enum-told .given .1) (c .before .first2 .given .1)
 
 stowed-from-requires-2 : tie.Need-stowed-from-requires-2
 stowed-from-requires-2 c κs = search needs
@@ -33,8 +35,10 @@ enum-known-why-2 c = search needs
 
 returns-3 : tie.Need-returns-3
 returns-3 c =
-    by-no-behind _ _ _ _ (sym (c .before .before .before .before .before .before .before .before .before .stowed-from .ensures) ∙ c .before .before .before .before .before .before .before .enum-told .given .1)
-    (c .before .before .before .before .before .first .given .1) (sym (c .before .before .before .stowed-from2 .ensures) ∙ c .before .why2 .given .1)
+    let behind = c .before .before .before in
+    let told = behind .before .before .before .before in
+    by-no-behind _ _ _ _ (sym (told .before .before .stowed-from .ensures) ∙ told .enum-told .given .1)
+    (behind .before .before .first .given .1) (sym (behind .stowed-from2 .ensures) ∙ c .before .why2 .given .1)
 
 enum-told-2 : tie.Need-enum-told-2
 enum-told-2 c = search needs
@@ -47,16 +51,24 @@ enum-known-second-2 c = search needs
 
 returns-4 : tie.Need-returns-4
 returns-4 c =
-    by-lost-behind _ _ _ _ (sym (c .before .before .before .before .before .before .before .before .before .before .before .stowed-from .ensures) ∙ c .before .before .before .before .before .before .before .before .before .enum-told .given .1)
-    (c .before .before .before .before .before .before .before .first .given .1) (sym (c .before .before .before .before .before .stowed-from2 .ensures) ∙ c .before .before .before .enum-told2 .given .1) (c .before .second2 .given .1)
+    let told2 = c .before .before .before in
+    let behind = told2 .before .before in
+    let told = behind .before .before .before .before in
+    by-lost-behind _ _ _ _ (sym (told .before .before .stowed-from .ensures) ∙ told .enum-told .given .1)
+    (behind .before .before .first .given .1) (sym (behind .stowed-from2 .ensures) ∙ told2 .enum-told2 .given .1)
+    (c .before .second2 .given .1)
 
 derivative-of-requires : tie.Need-derivative-of-requires
 derivative-of-requires c κs = search needs
 
 returns-5 : tie.Need-returns-5
 returns-5 c =
-    by-had _ _ _ _ (sym (c .before .before .before .before .before .before .before .before .before .before .before .before .stowed-from .ensures) ∙ c .before .before .before .before .before .before .before .before .before .before .enum-told .given .1)
-    (c .before .before .before .before .before .before .before .before .first .given .1) (sym (c .before .before .before .before .before .before .stowed-from2 .ensures) ∙ c .before .before .before .before .enum-told2 .given .1) (c .before .before .second .given .1) (c .derivative-of .ensures)
+    let told2 = c .before .before .before .before in
+    let behind = told2 .before .before in
+    let told = behind .before .before .before .before in
+    by-had _ _ _ _ (sym (told .before .before .stowed-from .ensures) ∙ told .enum-told .given .1)
+    (behind .before .before .first .given .1) (sym (behind .stowed-from2 .ensures) ∙ told2 .enum-told2 .given .1)
+    (c .before .before .second .given .1) (c .derivative-of .ensures)
 
 pub column-by-spec : {M : Type 1} → statement M
 column-by-spec =

@@ -1,10 +1,11 @@
 use mathlib.Core.Path.{_≡_, refl}
 use lib.Ieee.{ofBits}
-use Rattle.assembly.proofs.Going.{dof-small, columnsTo, column-more, jacobian-stopped, jacobian-whole}
+use Rattle.assembly.proofs.Going.{columnsTo, column-more, jacobian-stopped, jacobian-whole}
 use Prim.Native.Nat.{_≤_, _-_}
 use native.Mathlib.Omega.{arith}
 use Rattle.numbers.specs.Notation.{ratio}
 use Rattle.numbers.specs.Walks.{each, done}
+use Rattle.graph.proofs.Answers.{dof-most}
 use Rattle.graph.specs.Lent.{dofOf}
 use Rattle.assembly.specs.Known.{stowedProbes}
 use borrow.Author.Needs.{needs}
@@ -25,15 +26,21 @@ unfolding each ratio ofBits
 loop-holds c = (omega arith, refl)
 
 column-at-requires : tie.Need-column-at-requires Inv-loop μ-loop
-column-at-requires c κs = let a = c .before .before .before .before .args in let d : c .before .before .dof .result ≡ dofOf (a .m) = c .before .before .dof .ensures in
-    let pre = c .before .before .before .before .pre in
-    (pre .0, omega (arith, dof-small (a .m)), pre .1, pre .2 _)
+column-at-requires c κs =
+    let start = c .before .before .before .before in
+    let pre = start .pre in
+    let d : c .before .before .dof .result ≡ dofOf (start .args .m) = c .before .before .dof .ensures in
+    (pre .0, omega (arith, dof-most (start .args .m)), pre .1, pre .2 _)
 
 enum-known-d : tie.Need-enum-known-d Inv-loop μ-loop
 enum-known-d c = search needs
 
 put-six-requires : tie.Need-put-six-requires Inv-loop μ-loop
-put-six-requires c κs = let a = c .before .before .before .before .before .before .before .before .before .args in let d : c .before .before .before .before .before .before .before .dof .result ≡ dofOf (a .m) = c .before .before .before .before .before .before .before .dof .ensures in omega (arith, dof-small (a .m))
+put-six-requires c κs =
+    let dof = c .before .before .before .before .before .before .before in
+    let a = dof .before .before .args in
+    let d : dof .dof .result ≡ dofOf (a .m) = dof .dof .ensures in
+    omega (arith, dof-most (a .m))
 
 enum-known-why : tie.Need-enum-known-why Inv-loop μ-loop
 enum-known-why c = search needs
@@ -42,22 +49,33 @@ code-of-requires : tie.Need-code-of-requires Inv-loop μ-loop
 code-of-requires c κs = search needs
 
 returns : tie.Need-returns Inv-loop μ-loop
-returns c = jacobian-stopped _ _ _ _ (c .before .before .before .before .before .before .loop .c) (c .before .before .before .before .before .before .before .dof .ensures) (c .before .before .before .before .before .before .loop .inv .1) (c .before .before .before .before .column-at .ensures) (c .before .before .why .given .1) (c .before .before .before .before .before .loop-test .taken) (c .code-of .ensures)
+returns c =
+    let walk = c .before .before .before .before .before in
+    let l = walk .before .loop in
+    jacobian-stopped _ _ _ _ (l .c) (walk .before .before .dof .ensures) (l .inv .1)
+    (c .before .before .before .before .column-at .ensures) (c .before .before .why .given .1) (walk .loop-test .taken) (c .code-of .ensures)
 
 add-c : tie.Need-add-c Inv-loop μ-loop
-add-c c = search needs
+add-c c = omega arith
 
 loop-less : tie.Need-loop-less Inv-loop μ-loop
-loop-less c = search needs
+loop-less c = omega arith
 
 loop-again : tie.Need-loop-again Inv-loop μ-loop
-loop-again c = (omega arith, column-more _ _ _ _ (c .before .before .before .before .before .before .before .loop .c) (c .before .before .before .before .before .before .before .before .dof .ensures) (c .before .before .before .before .before .before .before .loop .inv .1) (c .before .before .before .before .before .column-at .ensures) (c .before .before .before .d .given .1) (c .put-six .ensures))
+loop-again c =
+    let l = c .before .before .before .before .before .before .before in (
+      omega arith,
+      column-more _ _ _ _ (l .loop .c) (l .before .dof .ensures) (l .loop .inv .1)
+          (c .before .before .before .before .before .column-at .ensures) (c .before .before .before .d .given .1) (c .put-six .ensures),
+    )
 
 code-of-requires-2 : tie.Need-code-of-requires-2 Inv-loop μ-loop
 code-of-requires-2 c κs = search needs
 
 returns-2 : tie.Need-returns-2 Inv-loop μ-loop
-returns-2 c = jacobian-whole _ _ _ _ (c .before .before .loop .c) (c .before .before .before .dof .ensures) (c .before .before .loop .inv .1) (omega arith) (c .code-of2 .ensures)
+returns-2 c =
+    let l = c .before .before in
+    jacobian-whole _ _ _ _ (l .loop .c) (l .before .dof .ensures) (l .loop .inv .1) (omega arith) (c .code-of2 .ensures)
 
 pub columns-spec : {M : Type 1} → statement M
 columns-spec =

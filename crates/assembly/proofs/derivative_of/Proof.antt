@@ -30,7 +30,8 @@ are-slopes : (c : tie.After-slope-vec2) → let a = c .before .before .args in s
 unfolding derivative
 are-slopes c = ap₂ (λ (t r : Vec3F32). sixIfFinite (record { t = t; r = r })) (c .before .slope-vec .ensures) (c .slope-vec2 .ensures)
 
-found : (c : tie.After-vec3-f32-is-finite2) → (c .before .vec3-f32-is-finite .result && c .vec3-f32-is-finite2 .result) ≡ finiteTwist (slopes (c .before .before))
+found : (c : tie.After-vec3-f32-is-finite2)
+    → (c .before .vec3-f32-is-finite .result && c .vec3-f32-is-finite2 .result) ≡ finiteTwist (slopes (c .before .before))
 unfolding finiteTwist
 found c = both (c .before .vec3-f32-is-finite .ensures) (c .vec3-f32-is-finite2 .ensures)
 

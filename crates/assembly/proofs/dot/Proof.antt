@@ -21,40 +21,47 @@ unfolding sumOf
 loop-holds c = search needs
 
 mul-s : tie.Need-mul-s Inv-loop μ-loop
-mul-s c = search needs
+mul-s c = omega arith
 
 mul-s-2 : tie.Need-mul-s-2 Inv-loop μ-loop
-mul-s-2 c = search needs
+mul-s-2 c = omega arith
 
 index-1-s : tie.Need-index-1-s Inv-loop μ-loop
-index-1-s c = search needs
+index-1-s c = omega arith
 
 index-2-s : tie.Need-index-2-s Inv-loop μ-loop
-index-2-s c = search needs
+index-2-s c = omega arith
 
 mul-s-3 : tie.Need-mul-s-3 Inv-loop μ-loop
-mul-s-3 c = search needs
+mul-s-3 c = omega arith
 
 mul-s-4 : tie.Need-mul-s-4 Inv-loop μ-loop
-mul-s-4 c = search needs
+mul-s-4 c = omega arith
 
 index-1-s-2 : tie.Need-index-1-s-2 Inv-loop μ-loop
-index-1-s-2 c = search needs
+index-1-s-2 c = omega arith
 
 index-2-s-2 : tie.Need-index-2-s-2 Inv-loop μ-loop
-index-2-s-2 c = search needs
+index-2-s-2 c = omega arith
 
 add-k : tie.Need-add-k Inv-loop μ-loop
-add-k c = search needs
+add-k c = omega arith
 
 loop-less : tie.Need-loop-less Inv-loop μ-loop
-loop-less c = search needs
+loop-less c = omega arith
 
 loop-again : tie.Need-loop-again Inv-loop μ-loop
-loop-again c = let a = c .before .before .before .before .args in let l = c .before .before .before .loop in (omega arith, sum-more binary32 (λ q. cell (a .a .now) q (a .i) ⊠ cell (a .b .now) q (a .j)) (l .k) _ (l .inv .1))
+loop-again c =
+    let l = c .before .before .before .loop in
+    let a = c .before .before .before .before .args in
+    (omega arith, sum-more binary32 (λ q. cell (a .a .now) q (a .i) ⊠ cell (a .b .now) q (a .j)) (l .k) _ (l .inv .1))
 
 returns : tie.Need-returns Inv-loop μ-loop
-returns c = let a = c .before .before .args in let l = c .before .loop in let e : l .k ≡ 6 = omega arith in l .inv .1 ∙ ap (sumOf binary32 (λ q. cell (a .a .now) q (a .i) ⊠ cell (a .b .now) q (a .j))) e
+returns c =
+    let l = c .before .loop in
+    let a = c .before .before .args in
+    let e : l .k ≡ 6 = omega arith in
+    l .inv .1 ∙ ap (sumOf binary32 (λ q. cell (a .a .now) q (a .i) ⊠ cell (a .b .now) q (a .j))) e
 
 pub dot-spec : {M : Type 1} → statement M
 dot-spec =

@@ -1,9 +1,8 @@
-use mathlib.Core.Path.{sym, ap, _∙_}
+use mathlib.Core.Path.{sym, _∙_}
 use native.Mathlib.Omega.{arith}
 use lib.Ieee.{ofBits}
 use Rattle.numbers.specs.Notation.{ratio}
 use Rattle.graph.specs.Lent.{dofOf}
-use Rattle.residual.specs.Stowed.{stowedIn}
 use Rattle.assembly.specs.Known.{stowedProbes}
 use Rattle.assembly.proofs.Knowing.{dof-large, first-cell}
 use Rattle.assembly.proofs.SideBySide.{first-lost, shift-shared}
@@ -12,10 +11,10 @@ use Rattle.assembly.proofs.edge_endpoint_jacobian.Statement.{statement}
 use Rattle.assembly.proofs.edge_endpoint_jacobian.Tie as tie
 
 mul-stowed : tie.Need-mul-stowed
-mul-stowed c = search needs
+mul-stowed c = omega arith
 
 add-stowed : tie.Need-add-stowed
-add-stowed c = search needs
+add-stowed c = omega arith
 
 stowed-requires : tie.Need-stowed-requires
 stowed-requires c κs = search needs
@@ -47,9 +46,11 @@ columns-requires : tie.Need-columns-requires
 columns-requires c κs =
     let a = c .before .before .before .before .before .before .before .before .args in
     let pre = c .before .before .before .before .before .before .before .before .pre in
-    let first = first-cell (a .known .now) (a .x) ∙ sym (c .before .before .before .before .before .before .stowed .ensures) ∙ c .before .before .before .before .t .given .1 in
+    let first = first-cell (a .known .now) (a .x) ∙ sym (c .before .before .before .before .before .before .stowed .ensures)
+    ∙ c .before .before .before .before .t .given .1 in
     let shared =
-    shift-shared (a .l) (a .end) {probe = stowedProbes (a .known .now) (a .x)} (pre .2) first (c .before .before .widened .ensures) (c .before .hinge-of .ensures) in
+    shift-shared (a .l) (a .end) {probe = stowedProbes (a .known .now) (a .x)} (pre .2) first (c .before .before .widened .ensures)
+    (c .before .hinge-of .ensures) in
     (pre .0, pre .1, shared)
 
 returns-2 : tie.Need-returns-2

@@ -2,11 +2,6 @@ use Rattle.assembly.proofs.Knowing.{ready-first}
 use borrow.Author.Needs.{needs}
 use Rattle.assembly.proofs.fill.Statement.{statement}
 use Rattle.assembly.proofs.fill.Tie as tie
-use Rattle.assembly.proofs.fill.Reads as reads
-use Rattle.assembly.proofs.fill.Lts as lts
-use Rattle.assembly.proofs.fill_free.Reads as fill-free-reads
-use Rattle.probes.proofs.probing_of.Reads as probing-of-reads
-use Rattle.residual.proofs.fill_bases.Reads as fill-bases-reads
 
 fill-bases-requires : tie.Need-fill-bases-requires
 fill-bases-requires c κs = search needs
@@ -15,7 +10,9 @@ probing-of-requires : tie.Need-probing-of-requires
 probing-of-requires c κs = search needs
 
 fill-free-requires : tie.Need-fill-free-requires
-fill-free-requires c κs = (c .probing-of .ensures, ready-first _ _ _ _ (c .before .before .before .before .before .before .before .before .pre) (c .before .before .before .before .fill-bases .ensures))
+fill-free-requires c κs =
+    let bases = c .before .before .before .before in
+    (c .probing-of .ensures, ready-first _ _ _ _ (bases .before .before .before .before .pre) (bases .fill-bases .ensures))
 
 same-length : tie.Need-same-length
 same-length c = search needs

@@ -1,38 +1,35 @@
+use native.Mathlib.Omega.{arith}
 use Rattle.assembly.proofs.Knowing.{axis-stowed}
 use borrow.Author.Needs.{needs}
 use Rattle.assembly.proofs.fill_axis.Statement.{statement}
 use Rattle.assembly.proofs.fill_axis.Tie as tie
-use Rattle.assembly.proofs.fill_axis.Reads as reads
-use Rattle.assembly.proofs.fill_axis.Lts as lts
-use Rattle.probes.proofs.probes_at.Reads as probes-at-reads
-use Rattle.residual.proofs.stow.Reads as stow-reads
 
 probes-at-requires : tie.Need-probes-at-requires
 probes-at-requires c κs = search needs
 
 mul-stow : tie.Need-mul-stow
-mul-stow c = search needs
+mul-stow c = omega arith
 
 add-stow : tie.Need-add-stow
-add-stow c = search needs
+add-stow c = omega arith
 
 add-stow-2 : tie.Need-add-stow-2
-add-stow-2 c = search needs
+add-stow-2 c = omega arith
 
 stow-requires : tie.Need-stow-requires
 stow-requires c κs = search needs
 
 mul-stow-2 : tie.Need-mul-stow-2
-mul-stow-2 c = search needs
+mul-stow-2 c = omega arith
 
 add-stow-3 : tie.Need-add-stow-3
-add-stow-3 c = search needs
+add-stow-3 c = omega arith
 
 add-stow-4 : tie.Need-add-stow-4
-add-stow-4 c = search needs
+add-stow-4 c = omega arith
 
 add-stow-5 : tie.Need-add-stow-5
-add-stow-5 c = search needs
+add-stow-5 c = omega arith
 
 stow-requires-2 : tie.Need-stow-requires-2
 stow-requires-2 c κs = search needs

@@ -7,10 +7,6 @@ use Prim.Native.Nat.{_≤_, _-_}
 use borrow.Author.Needs.{needs}
 use Rattle.assembly.proofs.fill_free.Statement.{statement}
 use Rattle.assembly.proofs.fill_free.Tie as tie
-use Rattle.assembly.proofs.fill_free.Reads as reads
-use Rattle.assembly.proofs.fill_free.Lts as lts
-use Rattle.assembly.proofs.fill_pose.Reads as fill-pose-reads
-use Rattle.graph.proofs.slot_at.Reads as slot-at-reads
 
 abbrev Inv-loop : tie.InvT-loop
 Inv-loop known₀ m probing poses blocks free x₀ known x = (x ≤ 256) × Ready m poses (slotIn blocks free) known x
@@ -26,17 +22,21 @@ slot-at-requires c κs = search needs
 
 fill-pose-requires : tie.Need-fill-pose-requires Inv-loop μ-loop
 fill-pose-requires c κs =
-    (c .before .before .loop-test .taken, c .before .before .before .before .before .before .pre .0, c .before .before .before .loop .inv .1 .len, c .before .before .before .loop .inv .1 .bases)
+    let l = c .before .before .before in
+    (c .before .before .loop-test .taken, l .before .before .before .pre .0, l .loop .inv .1 .len, l .loop .inv .1 .bases)
 
 add-x : tie.Need-add-x Inv-loop μ-loop
-add-x c = search needs
+add-x c = omega arith
 
 loop-less : tie.Need-loop-less Inv-loop μ-loop
-loop-less c = search needs
+loop-less c = omega arith
 
 loop-again : tie.Need-loop-again Inv-loop μ-loop
-loop-again c =
-    (omega arith, ready-more _ _ _ _ (c .before .before .before .before .before .before .loop .inv .1) _ (c .before .before .before .before .slot-at .ensures) (c .before .before .fill-pose .ensures))
+loop-again c = (
+  omega arith,
+  ready-more _ _ _ _ (c .before .before .before .before .before .before .loop .inv .1) _ (c .before .before .before .before .slot-at .ensures)
+      (c .before .before .fill-pose .ensures),
+)
 
 same-length : tie.Need-same-length Inv-loop μ-loop
 same-length c = c .before .loop .inv .1 .len ∙ sym (c .before .before .before .before .pre .1 .len)

@@ -4,12 +4,8 @@ use Rattle.probes.specs.Stances.{probeBy}
 use native.Mathlib.Omega.{arith}
 use mathlib.Core.Path.{_∙_}
 use Prim.Native.Nat.{_≤_, _-_}
-use borrow.Author.Needs.{needs}
 use Rattle.assembly.proofs.fill_probes.Statement.{statement}
 use Rattle.assembly.proofs.fill_probes.Tie as tie
-use Rattle.assembly.proofs.fill_probes.Reads as reads
-use Rattle.assembly.proofs.fill_probes.Lts as lts
-use Rattle.assembly.proofs.fill_axis.Reads as fill-axis-reads
 
 abbrev Inv-loop : tie.InvT-loop
 Inv-loop known₀ stance dof x c₀ known c = (c ≤ dof) × Probed (probeBy stance) x c known₀ known
@@ -27,10 +23,10 @@ fill-axis-requires c κs =
     (c .before .before .before .before .pre .0, omega arith, c .before .before .loop .inv .1 .len ∙ c .before .before .before .before .pre .2)
 
 add-c : tie.Need-add-c Inv-loop μ-loop
-add-c c = search needs
+add-c c = omega arith
 
 loop-less : tie.Need-loop-less Inv-loop μ-loop
-loop-less c = search needs
+loop-less c = omega arith
 
 loop-again : tie.Need-loop-again Inv-loop μ-loop
 loop-again c =

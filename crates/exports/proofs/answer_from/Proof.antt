@@ -3,16 +3,16 @@ use Rattle.exports.proofs.answer_from.Statement.{statement}
 use Rattle.exports.proofs.answer_from.Tie as tie
 
 enum-known-e : tie.Need-enum-known-e
-enum-known-e c = search needs
+enum-known-e c = c .match .keys1
 
 enum-known-e-2 : tie.Need-enum-known-e-2
-enum-known-e-2 c = search needs
+enum-known-e-2 c = c .match .keys2
 
 add-t7 : tie.Need-add-t7
 add-t7 c = search needs
 
 has-converged-requires : tie.Need-has-converged-requires
-has-converged-requires c κs = search needs
+has-converged-requires c κs = tt
 
 returns : tie.Need-returns
 returns c = rw (c .before .e .given .1)

@@ -11,16 +11,16 @@ use Rattle.exports.proofs.assemble.Statement.{statement}
 use Rattle.exports.proofs.assemble.Tie as tie
 
 validate-pose-graph-requires : tie.Need-validate-pose-graph-requires
-validate-pose-graph-requires c κs = search needs
+validate-pose-graph-requires c κs = tt
 
 enum-known-answer : tie.Need-enum-known-answer
-enum-known-answer c = search needs
+enum-known-answer c = c .match .keys1
 
 enum-known-answer-2 : tie.Need-enum-known-answer-2
-enum-known-answer-2 c = search needs
+enum-known-answer-2 c = c .match .keys2
 
 dof-requires : tie.Need-dof-requires
-dof-requires c κs = search needs
+dof-requires c κs = tt
 
 cast-n : tie.Need-cast-n
 cast-n c = search needs
@@ -54,7 +54,7 @@ mul-count : tie.Need-mul-count
 mul-count c = let h = few-numbers (c .before) in omega arith
 
 unit-manifold-requires : tie.Need-unit-manifold-requires
-unit-manifold-requires c κs = search needs
+unit-manifold-requires c κs = tt
 
 slice-relend-prefix-build : tie.Need-slice-relend-prefix-build
 slice-relend-prefix-build c = enough (c .before .before .before)

@@ -13,7 +13,7 @@ use Rattle.exports.proofs.decide.Statement.{statement}
 use Rattle.exports.proofs.decide.Tie as tie
 
 drive-requires : tie.Need-drive-requires
-drive-requires c κs = search needs
+drive-requires c κs = tt
 
 put-next-requires : tie.Need-put-next-requires
 put-next-requires c κs =
@@ -22,10 +22,10 @@ put-next-requires c κs =
     (s .pre .0, s .pre .1, subst (λ (n : Next). iterations (stateOf n) < 4294967296) (sym (c .before .before .drive .ensures)) (few-iterations (s .args .set) (s .args .cost) _ f (s .pre .2)))
 
 same-length : tie.Need-same-length
-same-length c = search needs
+same-length c = c .before .before .before .before .put-next .kept .0
 
 same-length-2 : tie.Need-same-length-2
-same-length-2 c = search needs
+same-length-2 c = c .before .before .before .before .put-next .kept .1 .0
 
 returns : tie.Need-returns
 returns c =

@@ -1,5 +1,5 @@
 use Prim.Native.Nat.{_≤_, _-_}
-use mathlib.Core.Path.{_≡_, refl}
+use mathlib.Core.Path.{_≡_, refl, ap, _∙_}
 use native.Mathlib.Numerals.{add-one}
 use native.Mathlib.Omega.{arith}
 use lib.ListN.{length}
@@ -34,10 +34,12 @@ loop-less c = search needs
 
 loop-again : tie.Need-loop-again Inv-loop μ-loop
 unfolding every
-loop-again c = (omega arith, rw add-one (cc))
+loop-again c = (omega arith, rw (add-one, c .before .before .loop .inv .1))
 
 returns : tie.Need-returns Inv-loop μ-loop
-returns c = let e : c .before .loop .i ≡ length (now (c .before .before .args .events)) = omega arith in cc
+returns c =
+    let e : c .before .loop .i ≡ length (now (c .before .before .args .events)) = omega arith in
+    c .before .loop .inv .1 ∙ ap (known (now (c .before .before .args .events))) e
 
 pub known-events-spec : {M : Type 1} → statement M
 known-events-spec =

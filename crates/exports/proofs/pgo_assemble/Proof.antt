@@ -7,7 +7,6 @@ use Rattle.graph.specs.declared.Manifold.{Manifold}
 use Rattle.graph.specs.declared.Manifold.the-variants.{Se3, Gravity}
 use Rattle.residual.proofs.Steps.{passed, turned-away}
 use Rattle.exports.specs.Exported.{assembling, systemOf, assembleOut}
-use borrow.Author.Needs.{needs}
 use Rattle.exports.proofs.pgo_assemble.Statement.{statement}
 use Rattle.exports.proofs.pgo_assemble.Tie as tie
 
@@ -16,16 +15,16 @@ unfolding assembleOut
 returns c = turned-away _ refl (c .if1 .taken) refl
 
 vec-from-requires : tie.Need-vec-from-requires
-vec-from-requires c κs = search needs
+vec-from-requires c κs = tt
 
 manifold-of-requires : tie.Need-manifold-of-requires
-manifold-of-requires c κs = search needs
+manifold-of-requires c κs = tt
 
 assemble-requires : tie.Need-assemble-requires
-assemble-requires c κs = search needs
+assemble-requires c κs = tt
 
 same-length : tie.Need-same-length
-same-length c = search needs
+same-length c = c .before .before .assemble .kept .1 .1 .1 .1 .1 .0
 
 returns-2 : tie.Need-returns-2
 unfolding assembleOut

@@ -9,12 +9,11 @@ use denote.Ref.{now}
 use borrow.Author.Tests.{eqb-true, not-false}
 use Rattle.numbers.proofs.Tests.{and-first, and-second}
 use Rattle.residual.proofs.Steps.{passed, turned-away}
-use borrow.Author.Needs.{needs}
 use Rattle.exports.proofs.pgo_decide.Statement.{statement}
 use Rattle.exports.proofs.pgo_decide.Tie as tie
 
 known-events-requires : tie.Need-known-events-requires
-known-events-requires c κs = search needs
+known-events-requires c κs = tt
 
 tests : (c : tie.After-known-events) → (let a = c .before .before .before .before .before .args in
     (eqb (length (now (a .answer))) 8 && (eqb (length (now (a .costs))) 2 && (eqb (length (now (a .events))) (length (now (a .prices))) && c .known-events .result)))
@@ -26,16 +25,16 @@ unfolding decided
 returns c = turned-away _ (tests (c .before)) (c .if1 .taken) refl
 
 validate-settings-requires : tie.Need-validate-settings-requires
-validate-settings-requires c κs = search needs
+validate-settings-requires c κs = tt
 
 enum-known-r : tie.Need-enum-known-r
-enum-known-r c = search needs
+enum-known-r c = c .match .keys1
 
 put-refused-requires : tie.Need-put-refused-requires
 put-refused-requires c κs = eqb-true _ _ (and-first (eqb (length (now (c .before .before .before .before .before .before .before .before .before .before .before .args .answer))) 8) _ (not-false _ (c .before .before .before .before .before .if1 .left)))
 
 same-length : tie.Need-same-length
-same-length c = search needs
+same-length c = c .before .before .put-refused .kept .0
 
 returns-2 : tie.Need-returns-2
 unfolding decided ratio ofBits
@@ -46,7 +45,7 @@ returns-2 c =
     (rw (put .put-refused .ensures) (ap (decideFrom (settings (a .limit) (a .tolerance) (num 0) (a .damping)) (a .cost) (now (a .events)) (now (a .prices)) (now (a .answer)) (now (a .costs))) (sym (c .before .before .before .before .before .r .given .1) ∙ c .before .before .before .before .before .before .before .validate-settings .ensures)))
 
 enum-told : tie.Need-enum-told
-enum-told c = search needs
+enum-told c = c .match .keys2
 
 decide-requires : tie.Need-decide-requires
 decide-requires c κs =
@@ -58,10 +57,10 @@ decide-requires c κs =
     )
 
 same-length-2 : tie.Need-same-length-2
-same-length-2 c = search needs
+same-length-2 c = c .before .before .before .before .decide .kept .1 .1 .1 .1 .0
 
 same-length-3 : tie.Need-same-length-3
-same-length-3 c = search needs
+same-length-3 c = c .before .before .before .before .decide .kept .1 .1 .1 .1 .1 .0
 
 returns-3 : tie.Need-returns-3
 unfolding decided ratio ofBits

@@ -23,13 +23,13 @@ widened-from-requires-2 : tie.Need-widened-from-requires-2
 widened-from-requires-2 c κs = search needs
 
 exp-requires : tie.Need-exp-requires
-exp-requires c κs = search needs
+exp-requires c κs = tt
 
 enum-known-a : tie.Need-enum-known-a
-enum-known-a c = search needs
+enum-known-a c = c .match .keys1
 
 enum-told : tie.Need-enum-told
-enum-told c = search needs
+enum-told c = c .match .keys2
 
 found : (c : tie.After-exp) → (let a = c .before .before .before .before .before .before .args in c .exp .result ≡ expOf (three (now (a .delta))) (vec (at (now (a .delta)) 3) (at (now (a .delta)) 4) (at (now (a .delta)) 5)))
 found c = c .exp .ensures ∙ rw (c .before .widened-from2 .ensures, c .before .before .widened-from .ensures)
@@ -44,7 +44,7 @@ put-transform-requires c κs =
     eqb-true _ _ (and-second (eqb (length (now (a .delta))) 6) _ (not-false _ (c .before .before .before .before .before .before .before .if1 .left)))
 
 same-length : tie.Need-same-length
-same-length c = search needs
+same-length c = c .before .before .put-transform .kept .0
 
 returns-3 : tie.Need-returns-3
 unfolding expOut

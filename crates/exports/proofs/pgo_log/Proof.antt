@@ -6,7 +6,6 @@ use Rattle.numbers.proofs.Tests.{and-second}
 use mathlib.Core.Path.{refl}
 use Rattle.residual.proofs.Steps.{passed, turned-away}
 use Rattle.exports.specs.Layers.{logOut}
-use borrow.Author.Needs.{needs}
 use Rattle.exports.proofs.pgo_log.Statement.{statement}
 use Rattle.exports.proofs.pgo_log.Tie as tie
 
@@ -15,10 +14,10 @@ unfolding logOut
 returns c = turned-away _ refl (c .if1 .taken) refl
 
 transform-from-requires : tie.Need-transform-from-requires
-transform-from-requires c κs = search needs
+transform-from-requires c κs = tt
 
 log-requires : tie.Need-log-requires
-log-requires c κs = search needs
+log-requires c κs = tt
 
 put-twist-requires : tie.Need-put-twist-requires
 put-twist-requires c κs =
@@ -26,7 +25,7 @@ put-twist-requires c κs =
     eqb-true _ _ (and-second (eqb (length (now (a .t))) 7) _ (not-false _ (c .before .before .before .if1 .left)))
 
 same-length : tie.Need-same-length
-same-length c = search needs
+same-length c = c .before .before .put-twist .kept .0
 
 returns-2 : tie.Need-returns-2
 unfolding logOut

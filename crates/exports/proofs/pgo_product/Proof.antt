@@ -6,7 +6,6 @@ use Rattle.numbers.proofs.Tests.{and-second}
 use mathlib.Core.Path.{refl}
 use Rattle.residual.proofs.Steps.{passed, turned-away}
 use Rattle.exports.specs.Layers.{productOut}
-use borrow.Author.Needs.{needs}
 use Rattle.exports.proofs.pgo_product.Statement.{statement}
 use Rattle.exports.proofs.pgo_product.Tie as tie
 
@@ -15,13 +14,13 @@ unfolding productOut
 returns c = turned-away _ refl (c .if1 .taken) refl
 
 transform-from-requires : tie.Need-transform-from-requires
-transform-from-requires c κs = search needs
+transform-from-requires c κs = tt
 
 transform-from-requires-2 : tie.Need-transform-from-requires-2
-transform-from-requires-2 c κs = search needs
+transform-from-requires-2 c κs = tt
 
 product-of-requires : tie.Need-product-of-requires
-product-of-requires c κs = search needs
+product-of-requires c κs = tt
 
 put-transform-requires : tie.Need-put-transform-requires
 put-transform-requires c κs =
@@ -29,7 +28,7 @@ put-transform-requires c κs =
     eqb-true _ _ (and-second (eqb (length (now (a .b))) 7) _ (and-second (eqb (length (now (a .a))) 7) _ (not-false _ (c .before .before .before .before .if1 .left))))
 
 same-length : tie.Need-same-length
-same-length c = search needs
+same-length c = c .before .before .put-transform .kept .0
 
 returns-2 : tie.Need-returns-2
 unfolding productOut

@@ -6,7 +6,6 @@ use Rattle.numbers.proofs.Tests.{and-second}
 use mathlib.Core.Path.{refl}
 use Rattle.residual.proofs.Steps.{passed, turned-away}
 use Rattle.exports.specs.Layers.{quaternionOut}
-use borrow.Author.Needs.{needs}
 use Rattle.exports.proofs.pgo_quaternion_of_matrix.Statement.{statement}
 use Rattle.exports.proofs.pgo_quaternion_of_matrix.Tie as tie
 
@@ -15,10 +14,10 @@ unfolding quaternionOut
 returns c = turned-away _ refl (c .if1 .taken) refl
 
 matrix-from-requires : tie.Need-matrix-from-requires
-matrix-from-requires c κs = search needs
+matrix-from-requires c κs = tt
 
 quat-of-matrix-requires : tie.Need-quat-of-matrix-requires
-quat-of-matrix-requires c κs = search needs
+quat-of-matrix-requires c κs = tt
 
 put-quaternion-requires : tie.Need-put-quaternion-requires
 put-quaternion-requires c κs =
@@ -26,7 +25,7 @@ put-quaternion-requires c κs =
     eqb-true _ _ (and-second (eqb (length (now (a .m))) 9) _ (not-false _ (c .before .before .before .if1 .left)))
 
 same-length : tie.Need-same-length
-same-length c = search needs
+same-length c = c .before .before .put-quaternion .kept .0
 
 returns-2 : tie.Need-returns-2
 unfolding quaternionOut

@@ -8,7 +8,6 @@ use lib.Dec.{eqb}
 use lib.ListN.{length}
 use denote.Ref.{now}
 use Rattle.numbers.proofs.Tests.{and-second}
-use borrow.Author.Needs.{needs}
 use Rattle.exports.proofs.pgo_residual.Statement.{statement}
 use Rattle.exports.proofs.pgo_residual.Tie as tie
 
@@ -17,22 +16,22 @@ unfolding residualOut
 returns c = turned-away _ refl (c .if1 .taken) refl
 
 pose-at-requires : tie.Need-pose-at-requires
-pose-at-requires c κs = search needs
+pose-at-requires c κs = tt
 
 pose-at-requires-2 : tie.Need-pose-at-requires-2
-pose-at-requires-2 c κs = search needs
+pose-at-requires-2 c κs = tt
 
 edge-at-requires : tie.Need-edge-at-requires
-edge-at-requires c κs = search needs
+edge-at-requires c κs = tt
 
 weighted-relative-residual-requires : tie.Need-weighted-relative-residual-requires
-weighted-relative-residual-requires c κs = search needs
+weighted-relative-residual-requires c κs = tt
 
 enum-known-d : tie.Need-enum-known-d
-enum-known-d c = search needs
+enum-known-d c = c .match .keys1
 
 enum-told : tie.Need-enum-told
-enum-told c = search needs
+enum-told c = c .match .keys2
 
 found : (c : tie.After-weighted-relative-residual) → (let a = c .before .before .before .before .before .before .before .before .before .args in c .weighted-relative-residual .result ≡ residualOf (pose (now (a .a))) (pose (now (a .b))) (edge (now (a .edge))))
 found c =
@@ -57,7 +56,7 @@ put-twist-requires c κs =
     eqb-true _ _ (and-second (eqb (length (now (a .edge))) 8) _ (and-second (eqb (length (now (a .b))) 12) _ (and-second (eqb (length (now (a .a))) 12) _ (not-false _ (c .before .before .before .before .before .before .before .before .if1 .left)))))
 
 same-length : tie.Need-same-length
-same-length c = search needs
+same-length c = c .before .before .put-twist .kept .0
 
 returns-3 : tie.Need-returns-3
 unfolding residualOut

@@ -9,7 +9,6 @@ use lib.Dec.{eqb}
 use lib.ListN.{length}
 use denote.Ref.{now}
 use Rattle.numbers.proofs.Tests.{and-second}
-use borrow.Author.Needs.{needs}
 use Rattle.exports.proofs.pgo_retract.Statement.{statement}
 use Rattle.exports.proofs.pgo_retract.Tie as tie
 
@@ -18,19 +17,19 @@ unfolding retractOut
 returns c = turned-away _ refl (c .if1 .taken) refl
 
 pose-at-requires : tie.Need-pose-at-requires
-pose-at-requires c κs = search needs
+pose-at-requires c κs = tt
 
 step-from-requires : tie.Need-step-from-requires
-step-from-requires c κs = search needs
+step-from-requires c κs = tt
 
 retract-requires : tie.Need-retract-requires
-retract-requires c κs = search needs
+retract-requires c κs = tt
 
 enum-known-p : tie.Need-enum-known-p
-enum-known-p c = search needs
+enum-known-p c = c .match .keys1
 
 enum-told : tie.Need-enum-told
-enum-told c = search needs
+enum-told c = c .match .keys2
 
 found : (c : tie.After-retract) → (let a = c .before .before .before .before .before .before .before .args in c .retract .result ≡ retractOf Se3 (pose (now (a .pose))) (now (a .delta)))
 found c = c .retract .ensures ∙ rw (c .before .step-from .ensures, c .before .before .pose-at .ensures, one-pose) (first-six-do _ _ _)
@@ -45,7 +44,7 @@ put-pose-requires c κs =
     eqb-true _ _ (and-second (eqb (length (now (a .delta))) 6) _ (and-second (eqb (length (now (a .pose))) 12) _ (not-false _ (c .before .before .before .before .before .before .before .if1 .left))))
 
 same-length : tie.Need-same-length
-same-length c = search needs
+same-length c = c .before .before .put-pose .kept .0
 
 returns-3 : tie.Need-returns-3
 unfolding retractOut

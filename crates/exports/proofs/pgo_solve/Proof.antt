@@ -22,19 +22,19 @@ unfolding solveOut
 returns-2 c = left _ (ne-eqb _ _ (c .if2 .taken)) refl
 
 solve-damped-requires : tie.Need-solve-damped-requires
-solve-damped-requires c κs = search needs
+solve-damped-requires c κs = tt
 
 enum-told : tie.Need-enum-told
-enum-told c = search needs
+enum-told c = c .match .keys1
 
 enum-told-2 : tie.Need-enum-told-2
-enum-told-2 c = search needs
+enum-told-2 c = c .match .keys2
 
 enum-told-3 : tie.Need-enum-told-3
-enum-told-3 c = search needs
+enum-told-3 c = c .match .keys3
 
 same-length : tie.Need-same-length
-same-length c = search needs
+same-length c = c .before .before .before .before .solve-damped .kept .0
 
 returns-3 : tie.Need-returns-3
 unfolding solveOut
@@ -44,7 +44,7 @@ returns-3 c =
     (rw (x .solve-damped .ensures .1, sym (x .solve-damped .ensures .0) ∙ c .enum-told .given .1))
 
 same-length-2 : tie.Need-same-length-2
-same-length-2 c = search needs
+same-length-2 c = c .before .before .before .before .solve-damped .kept .0
 
 returns-4 : tie.Need-returns-4
 unfolding solveOut
@@ -54,7 +54,7 @@ returns-4 c =
     (rw (x .solve-damped .ensures .1, sym (x .solve-damped .ensures .0) ∙ c .enum-told2 .given .1))
 
 same-length-3 : tie.Need-same-length-3
-same-length-3 c = search needs
+same-length-3 c = c .before .before .before .before .solve-damped .kept .0
 
 returns-5 : tie.Need-returns-5
 unfolding solveOut

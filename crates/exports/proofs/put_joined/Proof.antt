@@ -1,30 +1,30 @@
-use borrow.Author.Needs.{needs}
+use mathlib.Core.Path.{refl}
 use Rattle.exports.proofs.put_joined.Statement.{statement}
 use Rattle.exports.proofs.put_joined.Tie as tie
 
 stop-number-requires : tie.Need-stop-number-requires
-stop-number-requires c κs = search needs
+stop-number-requires c κs = tt
 
 flag-of-requires : tie.Need-flag-of-requires
-flag-of-requires c κs = search needs
+flag-of-requires c κs = tt
 
 slice-aggregate-give-counts : tie.Need-slice-aggregate-give-counts
-slice-aggregate-give-counts c = search needs
+slice-aggregate-give-counts c = refl
 
 give-counts-requires : tie.Need-give-counts-requires
-give-counts-requires c κs = search needs
+give-counts-requires c κs = c .before .before .before .before .before .before .pre .0
 
 slice-aggregate-give32 : tie.Need-slice-aggregate-give32
-slice-aggregate-give32 c = search needs
+slice-aggregate-give32 c = refl
 
 give32-requires : tie.Need-give32-requires
-give32-requires c κs = search needs
+give32-requires c κs = c .before .before .before .before .before .before .before .before .before .before .before .pre .1
 
 same-length : tie.Need-same-length
-same-length c = search needs
+same-length c = c .before .before .before .before .before .before .before .give-counts .kept .0
 
 same-length-2 : tie.Need-same-length-2
-same-length-2 c = search needs
+same-length-2 c = c .before .before .give32 .kept .0
 
 returns : tie.Need-returns
 returns c =

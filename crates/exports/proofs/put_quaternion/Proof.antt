@@ -1,15 +1,15 @@
-use borrow.Author.Needs.{needs}
+use mathlib.Core.Path.{refl}
 use Rattle.exports.proofs.put_quaternion.Statement.{statement}
 use Rattle.exports.proofs.put_quaternion.Tie as tie
 
 slice-aggregate-give32 : tie.Need-slice-aggregate-give32
-slice-aggregate-give32 c = search needs
+slice-aggregate-give32 c = refl
 
 give32-requires : tie.Need-give32-requires
-give32-requires c κs = search needs
+give32-requires c κs = c .before .before .before .pre
 
 same-length : tie.Need-same-length
-same-length c = search needs
+same-length c = c .before .before .give32 .kept .0
 
 returns : tie.Need-returns
 returns c = c .before .before .give32 .ensures

@@ -4,16 +4,16 @@ use Rattle.exports.proofs.transform_from.Statement.{statement}
 use Rattle.exports.proofs.transform_from.Tie as tie
 
 at32-requires : tie.Need-at32-requires
-at32-requires c κs = search needs
+at32-requires c κs = tt
 
 at32-requires-2 : tie.Need-at32-requires-2
-at32-requires-2 c κs = search needs
+at32-requires-2 c κs = tt
 
 at32-requires-3 : tie.Need-at32-requires-3
-at32-requires-3 c κs = search needs
+at32-requires-3 c κs = tt
 
 at32-requires-4 : tie.Need-at32-requires-4
-at32-requires-4 c κs = search needs
+at32-requires-4 c κs = tt
 
 vec32-from-requires : tie.Need-vec32-from-requires
 vec32-from-requires c κs = search needs

@@ -3,19 +3,19 @@ use Rattle.exports.proofs.vec32_from.Statement.{statement}
 use Rattle.exports.proofs.vec32_from.Tie as tie
 
 at32-requires : tie.Need-at32-requires
-at32-requires c κs = search needs
+at32-requires c κs = tt
 
 add-at32 : tie.Need-add-at32
 add-at32 c = search needs
 
 at32-requires-2 : tie.Need-at32-requires-2
-at32-requires-2 c κs = search needs
+at32-requires-2 c κs = tt
 
 add-at32-2 : tie.Need-add-at32-2
 add-at32-2 c = search needs
 
 at32-requires-3 : tie.Need-at32-requires-3
-at32-requires-3 c κs = search needs
+at32-requires-3 c κs = tt
 
 returns : tie.Need-returns
 returns c = rw (c .at323 .ensures, c .before .at322 .ensures, c .before .before .at32 .ensures)

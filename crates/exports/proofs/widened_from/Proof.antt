@@ -8,7 +8,7 @@ vec32-from-requires : tie.Need-vec32-from-requires
 vec32-from-requires c κs = search needs
 
 vec3-to-f64-requires : tie.Need-vec3-to-f64-requires
-vec3-to-f64-requires c κs = search needs
+vec3-to-f64-requires c κs = tt
 
 returns : tie.Need-returns
 unfolding vecF64

@@ -1,8 +1,9 @@
--- `numbers::round32` meets its contract: in the range of the normal `f32`s by the laws of `proofs/Widening.antt`, elsewhere by `narrow`. Assumes nothing.
+-- `numbers::round32` meets its contract: from 2^-126 up to where an infinity is nearest by the laws of `proofs/Widening.antt`, elsewhere by `narrow`.
+-- Assumes nothing.
 use mathlib.Core.Path.{_≡_, refl, sym, ap, _∙_, subst}
-use Prim.Native.Nat.{ℕ, _+_, _/_, _%_, _^_, _<_}
+use Prim.Native.Nat.{ℕ, _+_, _/_, _%_, _^_, _≤_, _<_}
 use native.Mathlib.Omega.{arith}
-use lib.Dec.{T, leb}
+use lib.Dec.{T, leb, leb→le}
 use lib.Bits.{bitAnd, and-mask}
 use lib.Ieee.{nan, binary32, binary64, div, fits, ofBits, toBits}
 use lib.Ieee.Bits.{toBits-lt}
@@ -30,16 +31,18 @@ float-to-bits-b c = no-nan (c .before .args .x) (c .if1 .left)
 wrapping-sub-u64-requires : tie.Need-wrapping-sub-u64-requires
 wrapping-sub-u64-requires c κs = search needs
 
--- what passes did not wrap
-passed : (b less : ℕ) → (less + 0x3810_0000_0000_0000) % 2 ^ 64 ≡ bitAnd b 0x7fff_ffff_ffff_ffff → less < 0x0fdf_ffff_f000_0000 → Within (b % 2 ^ 63)
-passed b less e l =
+-- what is below a bound that is low enough did not wrap, and rounds to no infinity
+passed : (b less bound : ℕ) → (less + 0x3810_0000_0000_0000) % 2 ^ 64 ≡ bitAnd b 0x7fff_ffff_ffff_ffff → less < bound
+    → T (leb bound 0x0fdf_ffff_f000_0000) → Within (b % 2 ^ 63)
+passed b less bound e l h =
     let m : (less + 0x3810_0000_0000_0000) % 2 ^ 64 ≡ b % 2 ^ 63 = e ∙ and-mask b 63 in
+    let k : bound ≤ 0x0fdf_ffff_f000_0000 = leb→le _ _ h in
     (omega arith, omega arith)
 
 within : (c : tie.Then2) → Within (toBits binary64 (c .before .before .before .args .x) % 2 ^ 63)
 within c =
     let w = c .before .wrapping-sub-u64 in
-    passed (toBits binary64 (c .before .before .before .args .x)) (w .result) (w .ensures) (c .if2 .taken)
+    passed (toBits binary64 (c .before .before .before .args .x)) (w .result) _ (w .ensures) (c .if2 .taken) tt
 
 bits-lt : (c : tie.Then2) → toBits binary64 (c .before .before .before .args .x) < 2 ^ 64
 bits-lt c = toBits-lt binary64 (c .before .before .before .args .x) (held (c .before .before .before))

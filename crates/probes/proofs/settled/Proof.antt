@@ -6,16 +6,16 @@ use Rattle.probes.proofs.settled.Tie as tie
 quat-of-matrix-requires : tie.Need-quat-of-matrix-requires
 quat-of-matrix-requires c κs = search needs
 
-again-requires : tie.Need-again-requires
-again-requires c κs = search needs
+matrix-again-requires : tie.Need-matrix-again-requires
+matrix-again-requires c κs = search needs
 
 swing-of-requires : tie.Need-swing-of-requires
 swing-of-requires c κs = search needs
 
 returns : tie.Need-returns
 unfolding settledBy
-returns c = rw (c .swing-of .ensures, c .before .again .ensures, c .before .before .quat-of-matrix .ensures)
+returns c = rw (c .swing-of .ensures, c .before .matrix-again .ensures, c .before .before .quat-of-matrix .ensures)
 
 pub settled-spec : {M : Type 1} → statement M
 settled-spec =
-    tie.close (tie.spec quat-of-matrix-requires again-requires swing-of-requires returns)
+    tie.close (tie.spec quat-of-matrix-requires matrix-again-requires swing-of-requires returns)

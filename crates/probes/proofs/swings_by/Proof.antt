@@ -39,11 +39,11 @@ quat-of-matrix-requires c κs = search needs
 quat-of-matrix-requires-2 : tie.Need-quat-of-matrix-requires-2
 quat-of-matrix-requires-2 c κs = search needs
 
-again-requires : tie.Need-again-requires
-again-requires c κs = search needs
+matrix-again-requires : tie.Need-matrix-again-requires
+matrix-again-requires c κs = search needs
 
-again-requires-2 : tie.Need-again-requires-2
-again-requires-2 c κs = search needs
+matrix-again-requires-2 : tie.Need-matrix-again-requires-2
+matrix-again-requires-2 c κs = search needs
 
 swing-of-requires : tie.Need-swing-of-requires
 swing-of-requires c κs = search needs
@@ -60,8 +60,8 @@ returns c =
     rw (
       c .swing-of2 .ensures,
       c .before .swing-of .ensures,
-      c .before .before .again2 .ensures,
-      c .before .before .before .again .ensures,
+      c .before .before .matrix-again2 .ensures,
+      c .before .before .before .matrix-again .ensures,
       q .quat-of-matrix2 .ensures,
       q .before .quat-of-matrix .ensures,
       q .before .before .mat3-to-f322 .ensures,
@@ -92,8 +92,8 @@ swings-by-spec =
     mat3-to-f32-requires-2
     quat-of-matrix-requires
     quat-of-matrix-requires-2
-    again-requires
-    again-requires-2
+    matrix-again-requires
+    matrix-again-requires-2
     swing-of-requires
     swing-of-requires-2
     returns)

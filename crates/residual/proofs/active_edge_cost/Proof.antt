@@ -55,14 +55,16 @@ accumulate-edge-squared-cost-requires c κs = search needs
 
 returns-2 : tie.Need-returns-2
 returns-2 c =
-    let a = c .before .before .before .before .before .before .before .before .before .before .before .before .before .before .args in
-    let known = residual-stowed (now (a .poses)) (now (a .known)) (a .count) _ _ _ (c .before .before .before .before .before .before .before .before .before .before .before .before .before .before .pre .1) (c .before .before .linked-at .ensures) (c .before .six-in .ensures) in
+    let s = c .before .before .before in
+    let o = s .before .before .before .before .before .before .before .before .before .before .before in
+    let a = o .args in
+    let linked = c .before .before .linked-at .ensures in
+    let six = residual-stowed (now (a .poses)) (now (a .known)) (a .count) _ _ _ (o .pre .1) linked (c .before .six-in .ensures) in
     counted (lentLinks (now (a .ends)) (now (a .edges)) (now (a .blocks)) (a .free)) (poseAt (now (a .poses))) (a .k) (a .c)
-    (c .before .before .before .before .before .before .before .before .before .index-at .ensures)
-    (c .before .before .before .before .before .before .before .before .index-at2 .ensures)
-    (c .before .before .before .before .before .before .before .slot-at .ensures) (c .before .before .before .before .before .slot-at2 .ensures)
-    (c .before .before .before .before .before .before .is-block .ensures) (c .before .before .before .before .is-block2 .ensures) (c .before .before .before .if1 .left)
-    (c .accumulate-edge-squared-cost .ensures ∙ ap (λ (r : Residual). pricedFrom (priced r (a .c))) known)
+    (s .before .before .before .before .before .before .index-at .ensures) (s .before .before .before .before .before .index-at2 .ensures)
+    (s .before .before .before .before .slot-at .ensures) (s .before .before .slot-at2 .ensures) (s .before .before .before .is-block .ensures)
+    (s .before .is-block2 .ensures) (s .if1 .left)
+    (c .accumulate-edge-squared-cost .ensures ∙ ap (λ (r : Residual). pricedFrom (priced r (a .c))) six)
 
 pub active-edge-cost-spec : {M : Type 1} → statement M
 active-edge-cost-spec =

@@ -20,7 +20,14 @@ sum-of-requires c κs = search needs
 
 returns : tie.Need-returns
 unfolding centreOf
-returns c = cc
+returns c =
+    rw (
+      c .sum-of .ensures,
+      c .before .three-from .ensures,
+      c .before .before .negated .ensures,
+      c .before .before .before .turn-vec .ensures,
+      c .before .before .before .before .transposed .ensures,
+    )
 
 pub centre-of-spec : {M : Type 1} → statement M
 centre-of-spec =

@@ -1,4 +1,5 @@
-use mathlib.Core.Path.{refl}
+use mathlib.Core.Path.{_≡_}
+use Rattle.residual.specs.EdgeParts.{linkedOf}
 use borrow.Author.Needs.{needs}
 use Rattle.residual.proofs.linked_at.Statement.{statement}
 use Rattle.residual.proofs.linked_at.Tie as tie
@@ -16,7 +17,12 @@ linked-of-requires : tie.Need-linked-of-requires
 linked-of-requires c κs = search needs
 
 returns : tie.Need-returns
-returns c = rw (c .linked-of .ensures, c .before .before .base-at2 .ensures, c .before .before .before .base-at .ensures, c .before .edge-at .ensures)
+returns c =
+    let from = c .before .before .before .base-at in
+    let to = c .before .before .base-at2 in
+    let e = c .before .edge-at in
+    let linked : c .linked-of .result ≡ linkedOf (from .result) (to .result) (e .result) = c .linked-of .ensures in
+    rw (linked, from .ensures, to .ensures, e .ensures)
 
 pub linked-at-spec : {M : Type 1} → statement M
 linked-at-spec =

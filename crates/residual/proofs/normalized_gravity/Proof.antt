@@ -12,7 +12,7 @@ vec-over-requires : tie.Need-vec-over-requires
 vec-over-requires c κs = search needs
 
 returns : tie.Need-returns
-returns c = cc
+returns c = rw (c .vec-over .ensures, c .before .sqrt64 .ensures, c .before .before .dot-of .ensures)
 
 pub normalized-gravity-spec : {M : Type 1} → statement M
 normalized-gravity-spec =

@@ -19,7 +19,9 @@ validate-pose-requires c κs = search needs
 validate-delta-requires : tie.Need-validate-delta-requires
 validate-delta-requires c κs = search needs
 
-tested : (c : tie.After-validate-delta) → (let a = c .before .before .args in (c .before .validate-pose .result && c .validate-delta .result) ≡ (finitePose (a .p) && every (λ j. finite (at (a .t3) j)) 4))
+tested : (c : tie.After-validate-delta)
+    → (let a = c .before .before .args in
+    (c .before .validate-pose .result && c .validate-delta .result) ≡ (finitePose (a .p) && every (λ j. finite (at (a .t3) j)) 4))
 tested c = both (c .before .validate-pose .ensures) (c .validate-delta .ensures)
 
 returns : tie.Need-returns
@@ -44,7 +46,8 @@ enum-known-q c = search needs
 enum-told : tie.Need-enum-told
 enum-told c = search needs
 
-turn : (c : tie.After-turn-of) → (let a = c .before .before .before .before .before .before .args in c .turn-of .result ≡ turnOf (times (neg (at (a .t3) 3)) (a .g)))
+turn : (c : tie.After-turn-of)
+    → (let a = c .before .before .before .before .before .before .args in c .turn-of .result ≡ turnOf (times (neg (at (a .t3) 3)) (a .g)))
 turn c =
     let g = c .before .before .before .before .before .before .args .g in
     let w : c .before .scaled .result ≡ times (neg (c .before .before .widen .result)) g = c .before .scaled .ensures in

@@ -71,7 +71,8 @@ returns-4 c =
     let p = a .before .before in
     passed _ (p .before .before .validate-delta .ensures) (p .before .if1 .left)
     (into _ _ _ (sym (p .checked-pose-to-se3 .ensures) ∙ a .a .given .1)
-    (moved-to _ _ (e .e .given .0 .0) (rw (← x .before .three-from2 .ensures, ← x .before .before .three-from .ensures) (sym (x .exp .ensures) ∙ e .e .given .1))
+    (moved-to _ _ (e .e .given .0 .0)
+    (rw (← x .before .three-from2 .ensures, ← x .before .before .three-from .ensures) (sym (x .exp .ensures) ∙ e .e .given .1))
     (rw (← c .before .product-of .ensures) (c .checked-se3-to-pose .ensures))))
 
 pub retract-se3-spec : {M : Type 1} → statement M

@@ -13,7 +13,8 @@ vec3-f32-is-finite-requires c κs = search needs
 vec3-f32-is-finite-requires-2 : tie.Need-vec3-f32-is-finite-requires-2
 vec3-f32-is-finite-requires-2 c κs = search needs
 
-found : (c : tie.After-vec3-f32-is-finite2) → (c .before .vec3-f32-is-finite .result && c .vec3-f32-is-finite2 .result) ≡ finiteTwist (c .before .before .args .d)
+found : (c : tie.After-vec3-f32-is-finite2)
+    → (c .before .vec3-f32-is-finite .result && c .vec3-f32-is-finite2 .result) ≡ finiteTwist (c .before .before .args .d)
 unfolding finiteTwist
 found c = both (c .before .vec3-f32-is-finite .ensures) (c .vec3-f32-is-finite2 .ensures)
 

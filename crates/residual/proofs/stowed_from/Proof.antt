@@ -1,7 +1,6 @@
 use lib.Ieee.{ofBits}
 use Rattle.numbers.specs.Notation.{ratio}
 use Rattle.residual.proofs.Stowing.{stowed-had, stowed-not}
-use borrow.Author.Needs.{needs}
 use Rattle.residual.proofs.stowed_from.Statement.{statement}
 use Rattle.residual.proofs.stowed_from.Tie as tie
 

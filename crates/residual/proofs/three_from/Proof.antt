@@ -36,7 +36,7 @@ widen-requires-3 : tie.Need-widen-requires-3
 widen-requires-3 c κs = search needs
 
 returns : tie.Need-returns
-returns c = cc
+returns c = rw (c .widen3 .ensures, c .before .widen2 .ensures, c .before .before .widen .ensures)
 
 pub three-from-spec : {M : Type 1} → statement M
 three-from-spec =

@@ -17,7 +17,13 @@ negated-requires c κs = search needs
 
 returns : tie.Need-returns
 unfolding turnedPose
-returns c = cc
+returns c =
+    rw (
+      c .negated .ensures,
+      c .before .turn-vec .ensures,
+      c .before .before .mat-product .ensures,
+      c .before .before .before .matrix-of .ensures,
+    )
 
 pub turned-pose-spec : {M : Type 1} → statement M
 turned-pose-spec =

@@ -18,7 +18,7 @@ returns c = rw (c .enum-told .given .1)
 
 returns-2 : tie.Need-returns-2
 unfolding unitOf
-returns-2 c = rw (c .before .before .m .given .1) (cc)
+returns-2 c = rw (c .normalized-gravity .ensures, c .before .before .m .given .1)
 
 pub unit-manifold-spec : {M : Type 1} → statement M
 unit-manifold-spec =

@@ -1,5 +1,5 @@
 use Prim.Native.Nat.{_≤_, _-_}
-use mathlib.Core.Path.{_≡_, refl}
+use mathlib.Core.Path.{_≡_, refl, ap, _∙_}
 use native.Mathlib.Numerals.{add-one}
 use native.Mathlib.Omega.{arith}
 use lib.Ieee.Scale.{finite}
@@ -36,10 +36,13 @@ loop-less c = search needs
 
 loop-again : tie.Need-loop-again Inv-loop μ-loop
 unfolding every
-loop-again c = (omega arith, rw add-one (cc))
+loop-again c = (omega arith, rw (add-one, c .is-finite32 .ensures, c .before .before .loop .inv .1))
 
 returns : tie.Need-returns Inv-loop μ-loop
-returns c = let e : c .before .loop .j ≡ c .before .before .args .n = omega arith in cc
+returns c =
+    let a = c .before .before .args in
+    let e : c .before .loop .j ≡ a .n = omega arith in
+    c .before .loop .inv .1 ∙ ap (every (λ i. finite (at (a .t1) i))) e
 
 pub validate-delta-spec : {M : Type 1} → statement M
 validate-delta-spec =

@@ -16,7 +16,9 @@ six-in-requires : tie.Need-six-in-requires
 six-in-requires c κs = search needs
 
 returns : tie.Need-returns
-returns c = residual-by _ _ _ (c .before .before .before .checked-pose-to-se3 .ensures) (c .before .before .checked-pose-to-se32 .ensures) (c .before .linked-of .ensures) (c .six-in .ensures)
+returns c =
+    residual-by _ _ _ (c .before .before .before .checked-pose-to-se3 .ensures) (c .before .before .checked-pose-to-se32 .ensures)
+    (c .before .linked-of .ensures) (c .six-in .ensures)
 
 pub weighted-relative-residual-spec : {M : Type 1} → statement M
 weighted-relative-residual-spec =

@@ -25,7 +25,15 @@ scaled-requires-2 c κs = search needs
 
 returns : tie.Need-returns
 unfolding angleFrom ratio ofBits
-returns c = cc
+returns c =
+    rw (
+      c .scaled2 .ensures,
+      c .before .scaled .ensures,
+      c .before .before .arc-series .ensures,
+      c .before .before .before .dot-of .ensures,
+      c .before .before .before .before .vec-over .ensures,
+      c .before .before .before .before .before .axis-of .ensures,
+    )
 
 pub angle-from-spec : {M : Type 1} → statement M
 angle-from-spec =

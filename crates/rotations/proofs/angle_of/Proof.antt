@@ -3,10 +3,6 @@ use Rattle.rotations.specs.LogParts.{angleFrom}
 use borrow.Author.Needs.{needs}
 use Rattle.rotations.proofs.angle_of.Statement.{statement}
 use Rattle.rotations.proofs.angle_of.Tie as tie
-use Rattle.rotations.proofs.angle_of.Reads as reads
-use Rattle.rotations.proofs.angle_of.Lts as lts
-use Rattle.rotations.proofs.angle_from.Reads as angle-from-reads
-use Rattle.rotations.proofs.half.Reads as half-reads
 
 half-requires : tie.Need-half-requires
 half-requires c κs = search needs
@@ -22,7 +18,7 @@ angle-from-requires c κs = search needs
 
 returns : tie.Need-returns
 unfolding angleOf angleFrom
-returns c = cc
+returns c = rw (c .angle-from .ensures, c .before .half3 .ensures, c .before .before .half2 .ensures, c .before .before .before .half .ensures)
 
 pub angle-of-spec : {M : Type 1} → statement M
 angle-of-spec =

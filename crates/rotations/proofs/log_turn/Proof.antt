@@ -2,11 +2,6 @@ use Rattle.rotations.specs.LogParts.{logTurn}
 use borrow.Author.Needs.{needs}
 use Rattle.rotations.proofs.log_turn.Statement.{statement}
 use Rattle.rotations.proofs.log_turn.Tie as tie
-use Rattle.rotations.proofs.log_turn.Reads as reads
-use Rattle.rotations.proofs.log_turn.Lts as lts
-use Rattle.rotations.proofs.angle_of.Reads as angle-of-reads
-use Rattle.rotations.proofs.unbend_of.Reads as unbend-of-reads
-use Rattle.rotations.proofs.upright_of.Reads as upright-of-reads
 
 upright-of-requires : tie.Need-upright-of-requires
 upright-of-requires c κs = search needs
@@ -19,7 +14,7 @@ unbend-of-requires c κs = search needs
 
 returns : tie.Need-returns
 unfolding logTurn
-returns c = cc
+returns c = rw (c .unbend-of .ensures, c .before .angle-of .ensures, c .before .before .upright-of .ensures)
 
 pub log-turn-spec : {M : Type 1} → statement M
 log-turn-spec =

@@ -1,14 +1,8 @@
-use Rattle.rotations.specs.ExpLog.{angleOf}
-use Rattle.rotations.specs.LogParts.{angleFrom, logTurn, logTurns}
+use Rattle.rotations.specs.LogParts.{logTurns}
+use Rattle.rotations.proofs.LogParts.{turn-parts}
 use borrow.Author.Needs.{needs}
 use Rattle.rotations.proofs.log_turns.Statement.{statement}
 use Rattle.rotations.proofs.log_turns.Tie as tie
-use Rattle.rotations.proofs.log_turns.Reads as reads
-use Rattle.rotations.proofs.log_turns.Lts as lts
-use Rattle.rotations.proofs.angle_from.Reads as angle-from-reads
-use Rattle.rotations.proofs.half.Reads as half-reads
-use Rattle.rotations.proofs.unbend_of.Reads as unbend-of-reads
-use Rattle.rotations.proofs.upright_of.Reads as upright-of-reads
 
 upright-of-requires : tie.Need-upright-of-requires
 upright-of-requires c κs = search needs
@@ -47,8 +41,17 @@ unbend-of-requires-2 : tie.Need-unbend-of-requires-2
 unbend-of-requires-2 c κs = search needs
 
 returns : tie.Need-returns
-unfolding logTurns logTurn angleOf angleFrom
-returns c = cc
+unfolding logTurns
+returns c =
+    let a = c .before .before .before .before in
+    let h = a .before .before .before .before in
+    let one =
+    turn-parts _ (h .before .before .before .upright-of .ensures) (h .before .half .ensures) (a .before .before .before .half3 .ensures)
+    (a .before .half5 .ensures) (a .angle-from .ensures) (c .before .unbend-of .ensures) in
+    let other =
+    turn-parts _ (h .before .before .upright-of2 .ensures) (h .half2 .ensures) (a .before .before .half4 .ensures)
+    (c .before .before .before .half6 .ensures) (c .before .before .angle-from2 .ensures) (c .unbend-of2 .ensures) in
+    λ i. record { first = one i; second = other i }
 
 pub log-turns-spec : {M : Type 1} → statement M
 log-turns-spec =

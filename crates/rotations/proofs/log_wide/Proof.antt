@@ -2,11 +2,6 @@ use Rattle.rotations.proofs.LogParts.{log-parts}
 use borrow.Author.Needs.{needs}
 use Rattle.rotations.proofs.log_wide.Statement.{statement}
 use Rattle.rotations.proofs.log_wide.Tie as tie
-use Rattle.rotations.proofs.log_wide.Reads as reads
-use Rattle.rotations.proofs.log_wide.Lts as lts
-use Rattle.rotations.proofs.log_at.Reads as log-at-reads
-use Rattle.rotations.proofs.log_turn.Reads as log-turn-reads
-use Rattle.rotations.proofs.widened.Reads as widened-reads
 
 widened-requires : tie.Need-widened-requires
 widened-requires c κs = search needs

@@ -2,9 +2,6 @@ use borrow.Author.Needs.{needs}
 use Rattle.rotations.specs.Rotation.{roundedQuat}
 use Rattle.rotations.proofs.rounded_quat.Statement.{statement}
 use Rattle.rotations.proofs.rounded_quat.Tie as tie
-use Rattle.rotations.proofs.rounded_quat.Reads as reads
-use Rattle.rotations.proofs.rounded_quat.Lts as lts
-use Rattle.numbers.proofs.round32.Reads as round32-reads
 
 round32-requires : tie.Need-round32-requires
 round32-requires c κs = search needs

@@ -2,9 +2,6 @@ use borrow.Author.Needs.{needs}
 use Rattle.rotations.specs.Rotation.{roundedVec}
 use Rattle.rotations.proofs.rounded_vec.Statement.{statement}
 use Rattle.rotations.proofs.rounded_vec.Tie as tie
-use Rattle.rotations.proofs.rounded_vec.Reads as reads
-use Rattle.rotations.proofs.rounded_vec.Lts as lts
-use Rattle.numbers.proofs.round32.Reads as round32-reads
 
 round32-requires : tie.Need-round32-requires
 round32-requires c κs = search needs

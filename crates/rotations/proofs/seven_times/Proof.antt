@@ -29,7 +29,7 @@ loop-less c = search needs
 
 loop-again : tie.Need-loop-again Inv-loop μ-loop
 unfolding squarings
-loop-again c = (search needs, rw add-one (cc))
+loop-again c = (search needs, rw (add-one, c .square .ensures, c .before .before .loop .inv .1))
 
 returns : tie.Need-returns Inv-loop μ-loop
 returns c =

@@ -1,26 +1,25 @@
 use Rattle.sparse_pgo.proofs.Running.{counted, answer-on, answer-refused, answer-joined}
-use borrow.Author.Needs.{needs}
 use Rattle.sparse_pgo.proofs.answer_of.Statement.{statement}
 use Rattle.sparse_pgo.proofs.answer_of.Tie as tie
 
 enum-told : tie.Need-enum-told
-enum-told c = search needs
+enum-told c = c .match .keys1
 
 enum-known-n : tie.Need-enum-known-n
-enum-known-n c = search needs
+enum-known-n c = c .match .keys2
 
 enum-known-e : tie.Need-enum-known-e
-enum-known-e c = search needs
+enum-known-e c = c .match2 .keys1
 
 enum-known-e-2 : tie.Need-enum-known-e-2
-enum-known-e-2 c = search needs
+enum-known-e-2 c = c .match2 .keys2
 
 add-t10 : tie.Need-add-t10
 add-t10 c =
     record { fits = counted (c .before .before .before .before .before .n .given .1) (c .before .before .before .before .before .before .before .pre) }
 
 has-converged-requires : tie.Need-has-converged-requires
-has-converged-requires c κs = search needs
+has-converged-requires c κs = tt
 
 returns : tie.Need-returns
 returns c =

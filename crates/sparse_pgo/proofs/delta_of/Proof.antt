@@ -1,9 +1,9 @@
 -- Invariant: the first j numbers of the block are laid over +0.
-use Prim.Native.Nat.{_-_, _≤_, _+_, _*_}
 use mathlib.Core.Path.{_≡_}
 use native.Mathlib.Nat.{mul-le-mul}
-use native.Mathlib.Omega.{arith}
 use borrow.Author.Needs.{needs}
+use Prim.Native.Nat.{_-_, _≤_, _+_, _*_}
+use native.Mathlib.Omega.{arith}
 use lib.ListN.{getD}
 use lib.Ieee.{nan, ofBits}
 use Rattle.numbers.specs.Notation.{num, ratio}
@@ -31,7 +31,7 @@ add-at32 : tie.Need-add-at32 Inv-loop μ-loop
 add-at32 c = omega (arith, part-fits c)
 
 at32-requires : tie.Need-at32-requires Inv-loop μ-loop
-at32-requires c κs = search needs
+at32-requires c κs = tt
 
 mul-delta : tie.Need-mul-delta Inv-loop μ-loop
 mul-delta c = search needs

@@ -1,10 +1,10 @@
-use mathlib.Core.Path.{sym, _∙_}
+use borrow.Author.Needs.{needs}
+use mathlib.Core.Path.{_∙_, sym}
 use lib.Dec.{T}
 use lib.Ieee.{binary32, fits}
 use Rattle.decisions.proofs.Going.{turnsLeft}
 use Rattle.sparse_pgo.specs.Turns.{linksIn}
 use Rattle.sparse_pgo.proofs.Looping.{Turning, turning-begin, turning-few, turning-on, turning-less, turning-over}
-use borrow.Author.Needs.{needs}
 use Rattle.sparse_pgo.proofs.iterate.Statement.{statement}
 use Rattle.sparse_pgo.proofs.iterate.Tie as tie
 
@@ -15,7 +15,7 @@ abbrev μ-loop : tie.MeasureT-loop
 μ-loop job ends edges blocks cost w32₀ w64₀ s₀ w32 w64 s = turnsLeft (job .settings .limit) s
 
 begin-requires : tie.Need-begin-requires Inv-loop μ-loop
-begin-requires c κs = search needs
+begin-requires c κs = tt
 
 loop-holds : tie.Need-loop-holds Inv-loop μ-loop
 loop-holds c =
@@ -29,7 +29,7 @@ one-turn-requires c κs =
     ((h .lent, turning-few h), (h .beside, h .holds))
 
 enum-known-t : tie.Need-enum-known-t Inv-loop μ-loop
-enum-known-t c = search needs
+enum-known-t c = c .match .keys1
 
 loop-less : tie.Need-loop-less Inv-loop μ-loop
 loop-less c =
@@ -40,7 +40,7 @@ loop-again c =
     turning-on (c .before .before .before .before .before .before .before .before .before .before .loop .inv) (c .before .before .before .before .before .before .before .one-turn .ensures) (c .before .t .given .1) (c .before .before .before .before .before .before .before .one-turn .kept .1 .1 .1 .1 .1 .1 .0)
 
 enum-known-t-2 : tie.Need-enum-known-t-2 Inv-loop μ-loop
-enum-known-t-2 c = search needs
+enum-known-t-2 c = c .match .keys2
 
 same-length : tie.Need-same-length Inv-loop μ-loop
 same-length c =

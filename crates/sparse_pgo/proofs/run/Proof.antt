@@ -1,9 +1,10 @@
-use denote.Ref.{now}
+use Rattle.sparse_pgo.proofs.Sizes.{put-back}
+use borrow.Author.Needs.{needs}
 use mathlib.Core.Path.{sym}
+use denote.Ref.{now}
 use native.Mathlib.Omega.{arith}
 use lib.Seq.{length-take-le}
 use Rattle.sparse_pgo.proofs.Border.{Fitted, fitted, n-most, need-fits, poses-most, single-fits, double-fits, poses-length, lentInput, run-turned, run-lent, run-startable, run-fit}
-use borrow.Author.Needs.{needs}
 use Rattle.sparse_pgo.proofs.run.Statement.{statement}
 use Rattle.sparse_pgo.proofs.run.Tie as tie
 
@@ -15,16 +16,16 @@ known : (c : tie.After-dof)
 known c = fitted _ _ _ _ (c .before .before .before .before .before .validate-optimizer-inputs .ensures) (c .before .before .answer2 .given .1) (c .dof .ensures)
 
 validate-optimizer-inputs-requires : tie.Need-validate-optimizer-inputs-requires
-validate-optimizer-inputs-requires c κs = search needs
+validate-optimizer-inputs-requires c κs = tt
 
 enum-known-answer : tie.Need-enum-known-answer
-enum-known-answer c = search needs
+enum-known-answer c = c .match .keys1
 
 enum-known-answer-2 : tie.Need-enum-known-answer-2
-enum-known-answer-2 c = search needs
+enum-known-answer-2 c = c .match .keys2
 
 dof-requires : tie.Need-dof-requires
-dof-requires c κs = search needs
+dof-requires c κs = tt
 
 cast-n : tie.Need-cast-n
 cast-n c = search needs
@@ -42,7 +43,7 @@ mul-n64 : tie.Need-mul-n64
 mul-n64 c = let h = poses-most (known (c .before .before)) in omega arith
 
 unit-manifold-requires : tie.Need-unit-manifold-requires
-unit-manifold-requires c κs = search needs
+unit-manifold-requires c κs = tt
 
 slice-relend-prefix-begun : tie.Need-slice-relend-prefix-begun
 slice-relend-prefix-begun c = single-fits (known (c .before .before .before .before))
@@ -75,13 +76,15 @@ returns c =
     (c .before .before .before .before .validate-optimizer-inputs .ensures) (c .before .answer .given .1)
 
 same-length : tie.Need-same-length
-same-length c = search needs
+same-length c =
+    put-back _ (c .before .before .before .before .before .before .begun .last .1 .1 .1 .1 .1 .0) (now (c .before .before .before .before .before .before .before .before .before .before .before .before .before .before .before .before .before .before .before .before .before .before .before .before .before .before .before .args .work32)) (single-fits (known (c .before .before .before .before .before .before .before .before .before .before .before .before .before .before))) (c .before .before .before .before .before .before .begun .kept .1 .1 .1 .1 .1 .0)
 
 same-length-2 : tie.Need-same-length-2
-same-length-2 c = search needs
+same-length-2 c =
+    put-back _ (c .before .before .before .before .before .before .begun .last .1 .1 .1 .1 .1 .1 .0) (now (c .before .before .before .before .before .before .before .before .before .before .before .before .before .before .before .before .before .before .before .before .before .before .before .before .before .before .before .args .work64)) (double-fits (known (c .before .before .before .before .before .before .before .before .before .before .before .before .before .before))) (c .before .before .before .before .before .before .begun .kept .1 .1 .1 .1 .1 .1 .0)
 
 same-length-3 : tie.Need-same-length-3
-same-length-3 c = search needs
+same-length-3 c = c .before .before .before .before .before .before .begun .kept .1 .1 .1 .1 .1 .1 .1 .0
 
 returns-2 : tie.Need-returns-2
 returns-2 c =

@@ -1,27 +1,26 @@
 use mathlib.Core.Path.{_≡_}
 use Rattle.decisions.specs.Run.{solved}
 use Rattle.sparse_pgo.proofs.Settling.{settled-moved, settled-kept, accepted-told, rejected-told, untried-told}
-use borrow.Author.Needs.{needs}
 use Rattle.sparse_pgo.proofs.settle.Statement.{statement}
 use Rattle.sparse_pgo.proofs.settle.Tie as tie
 
 after-solve-requires : tie.Need-after-solve-requires
-after-solve-requires c κs = search needs
+after-solve-requires c κs = tt
 
 enum-known-o : tie.Need-enum-known-o
-enum-known-o c = search needs
+enum-known-o c = c .match .keys1
 
 enum-told : tie.Need-enum-told
-enum-told c = search needs
+enum-told c = c .match2 .keys1
 
 commit-requires : tie.Need-commit-requires
-commit-requires c κs = search needs
+commit-requires c κs = c .before .before .before .before .before .before .before .before .before .pre
 
 enum-told-2 : tie.Need-enum-told-2
-enum-told-2 c = search needs
+enum-told-2 c = c .match2 .keys2
 
 same-length : tie.Need-same-length
-same-length c = search needs
+same-length c = c .before .before .commit .kept .1 .1 .0
 
 -- what follows the solve is asked with the limit and the tolerance of the job
 decided : (c : tie.After-after-solve)

@@ -1,37 +1,36 @@
-use mathlib.Core.Path.{sym}
-use native.Mathlib.Omega.{arith}
+use borrow.Author.Needs.{needs}
+use Rattle.sparse_pgo.proofs.Sizes.{half-fits, half-within}
+use mathlib.Core.Path.{refl, sym}
 use lib.Dec.{T}
 use lib.Seq.{length-take-le}
 use lib.Ieee.{binary32, fits}
 use Rattle.sparse_pgo.proofs.Running.{counts-fit, start-bad, start-goes}
-use borrow.Author.Needs.{needs}
 use Rattle.sparse_pgo.proofs.started.Statement.{statement}
 use Rattle.sparse_pgo.proofs.started.Tie as tie
 
 mul-half : tie.Need-mul-half
-mul-half c = search needs
+mul-half c = half-fits (c .before .before .before .before .before .pre .0 .0 .sized)
 
 slice-reshare-prefix-active-total-squared-residual-cost :
     tie.Need-slice-reshare-prefix-active-total-squared-residual-cost
-slice-reshare-prefix-active-total-squared-residual-cost c = search needs
+slice-reshare-prefix-active-total-squared-residual-cost c = half-within _ _ (c .before .before .before .before .before .pre .0 .0 .double)
 
 slice-aggregate-active-total-squared-residual-cost :
     tie.Need-slice-aggregate-active-total-squared-residual-cost
 slice-aggregate-active-total-squared-residual-cost c =
-    let d = c .before .before .before .before .before .before .pre .0 .0 .double in
-    sym (length-take-le _ _ (omega arith))
+    sym (length-take-le _ _ (half-within _ _ (c .before .before .before .before .before .before .pre .0 .0 .double)))
 
 active-total-squared-residual-cost-requires : tie.Need-active-total-squared-residual-cost-requires
-active-total-squared-residual-cost-requires c κs = search needs
+active-total-squared-residual-cost-requires c κs = tt
 
 enum-known-found : tie.Need-enum-known-found
-enum-known-found c = search needs
+enum-known-found c = c .match .keys1
 
 enum-known-found-2 : tie.Need-enum-known-found-2
-enum-known-found-2 c = search needs
+enum-known-found-2 c = c .match .keys2
 
 iterate-requires : tie.Need-iterate-requires
-iterate-requires c κs = search needs
+iterate-requires c κs = c .before .before .before .before .before .before .before .before .before .before .before .before .pre
 
 -- the first damping is an f32
 is-f32 : (c : tie.Start) → T (fits binary32 (c .args .job .settings .damping))
@@ -42,16 +41,16 @@ answer-of-requires c κs =
     counts-fit (c .before .before .before .before .before .before .before .before .before .before .before .before .before .before .before .before .before .pre .0 .1) (is-f32 (c .before .before .before .before .before .before .before .before .before .before .before .before .before .before .before .before .before)) (c .before .before .before .before .iterate .ensures)
 
 same-length : tie.Need-same-length
-same-length c = search needs
+same-length c = refl
 
 returns : tie.Need-returns
 returns c = start-bad _ _ _ (c .before .before .before .active-total-squared-residual-cost .ensures) (c .before .found .given .1)
 
 same-length-2 : tie.Need-same-length-2
-same-length-2 c = search needs
+same-length-2 c = c .before .before .before .before .before .iterate .kept .1 .1 .1 .1 .1 .0
 
 same-length-3 : tie.Need-same-length-3
-same-length-3 c = search needs
+same-length-3 c = c .before .before .before .before .before .iterate .kept .1 .1 .1 .1 .1 .1 .0
 
 returns-2 : tie.Need-returns-2
 returns-2 c =

@@ -1,8 +1,8 @@
 use lib.Ieee.{ofBits}
 use Rattle.numbers.specs.Notation.{ratio}
 use borrow.Author.Needs.{needs}
-use Rattle.probes.proofs.again.Statement.{statement}
-use Rattle.probes.proofs.again.Tie as tie
+use Rattle.probes.proofs.matrix_again.Statement.{statement}
+use Rattle.probes.proofs.matrix_again.Tie as tie
 
 rebuilt-matrix-requires : tie.Need-rebuilt-matrix-requires
 rebuilt-matrix-requires c κs = search needs
@@ -11,5 +11,5 @@ returns : tie.Need-returns
 unfolding ratio ofBits
 returns c = c .rebuilt-matrix .ensures
 
-pub again-spec : {M : Type 1} → statement M
-again-spec = tie.close (tie.spec rebuilt-matrix-requires returns)
+pub matrix-again-spec : {M : Type 1} → statement M
+matrix-again-spec = tie.close (tie.spec rebuilt-matrix-requires returns)
