@@ -680,7 +680,9 @@ fn build_over(
     }
 }
 
-// Scratch for 64 free poses of four numbers: 256 (256 + 3). It is cleared before it is used, so that what is smaller is quicker.
+// Scratch is cleared before it is used, and that takes time: so there are three sizes. The first two are those of an evening's fifty views, one of them fixed.
+
+// Fifty views with gravity: 196 (196 + 3).
 fn build_small(
     m: Manifold,
     poses: &[f64],
@@ -690,14 +692,31 @@ fn build_small(
     free: u32,
     work: &mut [f32],
 ) -> u32
-    requires { ⌜ (length (now work) ≡ need (dofOf m * free)) × (length (now work) ≤ 66304) ⌝ }
+    requires { ⌜ (length (now work) ≡ need (dofOf m * free)) × (length (now work) ≤ 39004) ⌝ }
     ensures { λ r. ⌜ (r, now (work .exit)) ≡ builtOut m (now (poses .entry)) (now (ends .entry)) (now (edges .entry)) (now (blocks .entry)) free (now (work .entry)) ⌝ }
 {
-    let mut system = [0.0f32; 66304];
+    let mut system = [0.0f32; 39004];
     build_over(m, poses, ends, edges, blocks, free, &mut system, work)
 }
 
-// Scratch for 64 free poses of six numbers: 384 (384 + 3).
+// Fifty views: 294 (294 + 3).
+fn build_middle(
+    m: Manifold,
+    poses: &[f64],
+    ends: &[u32],
+    edges: &[f32],
+    blocks: &[u32; 256],
+    free: u32,
+    work: &mut [f32],
+) -> u32
+    requires { ⌜ (length (now work) ≡ need (dofOf m * free)) × (length (now work) ≤ 87318) ⌝ }
+    ensures { λ r. ⌜ (r, now (work .exit)) ≡ builtOut m (now (poses .entry)) (now (ends .entry)) (now (edges .entry)) (now (blocks .entry)) free (now (work .entry)) ⌝ }
+{
+    let mut system = [0.0f32; 87318];
+    build_over(m, poses, ends, edges, blocks, free, &mut system, work)
+}
+
+// The most, 64 free poses: 384 (384 + 3).
 fn build_large(
     m: Manifold,
     poses: &[f64],
@@ -726,8 +745,11 @@ fn build(
     requires { ⌜ (length (now work) ≡ need (dofOf m * free)) × (length (now work) ≤ 148608) ⌝ }
     ensures { λ r. ⌜ (r, now (work .exit)) ≡ builtOut m (now (poses .entry)) (now (ends .entry)) (now (edges .entry)) (now (blocks .entry)) free (now (work .entry)) ⌝ }
 {
-    if work.len() <= 66304 {
+    if work.len() <= 39004 {
         return build_small(m, poses, ends, edges, blocks, free, work);
+    }
+    if work.len() <= 87318 {
+        return build_middle(m, poses, ends, edges, blocks, free, work);
     }
     build_large(m, poses, ends, edges, blocks, free, work)
 }
