@@ -1,5 +1,6 @@
 -- What an assembly knows of each pose, worked out once and kept in cells of eight numbers (`residual`'s Stowed): first the transforms of the first 256
--- poses, then twelve cells a pose, of its probes ahead along each axis and of its probes behind. Definitions only.
+-- poses, then twelve cells a pose, of its probes ahead along each axis and of its probes behind. `free-known` of proofs/Knowing says that the
+-- cells of a free pose hold its probes. Definitions only.
 use Prim.Native.Nat.{ℕ, _+_, _*_, _<_, _≤_}
 use mathlib.Core.Path.{_≡_}
 use mathlib.Core.Logic.{_⊎_}

@@ -148,7 +148,7 @@ fn column(l: Link, end: EdgeEndpoint, shift: Hinge, c: usize, ahead: Edge, behin
     )
 }
 
-// Cell e, all of which is lent: so there is no test of the length, as `graph::edge_at` has one.
+// Cell e, all of which is lent, so that its length is not tested, unlike in `graph::edge_at`.
 fn stowed_at(known: &[f32], e: usize) -> Edge
     requires { ⌜ e * 8 + 8 ≤ length (now known) ⌝ }
     ensures { λ r. ⌜ r ≡ edgeAt (now (known .entry)) e ⌝ }

@@ -69,9 +69,6 @@ widened s n l h =
         (value-scaled (ofFields binary32 s (n / 2 ^ 23) (n % 2 ^ 23)) s ((2 ^ 23 + n % 2 ^ 23) * 2 ^ (n / 2 ^ 23 - 1)) (2 ^ 149) (2 ^ 925)
         (read-high binary32 s (n / 2 ^ 23) (n % 2 ^ 23) (omega arith) (omega arith)))
 
-    field : in64 n / 2 ^ 52 ≡ n / 2 ^ 23 + 896
-    field = omega arith
-
     digits : 2 ^ 52 + in64 n % 2 ^ 52 ≡ (2 ^ 23 + n % 2 ^ 23) * 2 ^ 29
     digits = omega arith
 

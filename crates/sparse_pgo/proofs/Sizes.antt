@@ -1,5 +1,5 @@
 -- What a job's sizes say of the code's counts: they fit, and the parts lie within the work. Assumes nothing.
-use mathlib.Core.Path.{_≡_}
+use mathlib.Core.Path.{_≡_, _∙_}
 use mathlib.Core.List.{List, _++_}
 use Prim.Native.Nat.{ℕ, _+_, _*_, _-_, _≤_, _<_}
 use native.Mathlib.Nat.{mul-le-mul}
@@ -54,12 +54,16 @@ gradient-before n = omega arith
 pub half-within : (k l : ℕ) → l ≡ k * 24 → k * 12 ≤ l
 half-within k l e = omega arith
 
--- and still do once they are copied in
-pub half-copied : (k : ℕ) (x w : List Float) → length w ≡ k * 24 → length x ≡ length (take (k * 12) w) → k * 12 ≤ length (x ++ drop (k * 12) w)
-half-copied k x w e f =
-    let h : k * 12 ≤ length w = half-within k _ e in
-    let g : length (take (k * 12) w) ≡ k * 12 = length-take-le _ _ h in
+-- a prefix that was lent comes back as long as it was
+pub put-back : (n : ℕ) (x w : List Float) → n ≤ length w → length x ≡ length (take n w) → length (x ++ drop n w) ≡ length w
+put-back n x w h e =
+    let g : length (take n w) ≡ n = length-take-le n w h in
+    let d : length (drop n w) ≡ length w - n = length-drop n w in
     simp length-append (omega arith)
+
+-- and the accepted poses still stand within it, once they are copied in
+pub half-copied : (k : ℕ) (x w : List Float) → length w ≡ k * 24 → length x ≡ length (take (k * 12) w) → k * 12 ≤ length (x ++ drop (k * 12) w)
+half-copied k x w e f = half-within k _ (put-back (k * 12) x w (half-within k _ e) f ∙ e)
 
 -- the numbers of a pose stand within each half
 module _ {job : Job} (s : Sized job) (p : ℕ) (h : p < job .poses) where
@@ -74,10 +78,3 @@ held-within k l p e h = omega arith
 
 pub trial-within : (k l p : ℕ) → l ≡ k * 24 → p < k → k * 12 + p * 12 + 12 ≤ l
 trial-within k l p e h = omega arith
-
--- a prefix that was lent comes back as long as it was
-pub put-back : (n : ℕ) (x w : List Float) → n ≤ length w → length x ≡ length (take n w) → length (x ++ drop n w) ≡ length w
-put-back n x w h e =
-    let g : length (take n w) ≡ n = length-take-le n w h in
-    let d : length (drop n w) ≡ length w - n = length-drop n w in
-    simp length-append (omega arith)
