@@ -1,0 +1,68 @@
+-- What the record at a cursor leads to, for each way that the tests on it can go: what `step_at` answers at each of its returns. Assumes nothing.
+use Prim.Native.Nat.{ℕ, _+_, _-_, _<_, _≤_}
+use native.Mathlib.Omega.{arith}
+use mathlib.Core.Path.{_≡_, sym, _∙_}
+use mathlib.Core.Bool.{Bool, true, false, not, _&&_}
+use mathlib.Core.List.{List}
+use lib.Dec.{ltb}
+use lib.ListN.{length}
+use borrow.Author.Tests.{lt-ltb, le-ltb, eq-eqb, ne-eqb}
+use Rattle.numbers.specs.Refusals.{refusal, says}
+use Rattle.numbers.specs.declared.Verdict.the-variants.{Fine}
+use Rattle.numbers.proofs.Choices.{taken, left}
+use Rattle.job.specs.Format.{lengthAt, kindAt, isRecord, mayFollow, isFull, faultOf, endFaults, counted, closed, stepOf}
+use Rattle.job.specs.declared.Tally.{Tally}
+use Rattle.job.specs.declared.Cursor.{Cursor}
+use Rattle.job.specs.declared.Step.{Step}
+use Rattle.job.specs.declared.Step.the-variants.{On, Stop}
+
+module _ (room : Tally) (s : List ℕ) (c : Cursor) (r : Step) (within : c .at ≤ length s) where
+  pub cut-head : length s - c .at < 4 → r ≡ Stop (refusal 31 (c .at)) → r ≡ stepOf room s c
+  unfolding stepOf faultOf
+  cut-head l e = rw (lt-ltb (length s) (c .at + 4) (omega arith)) e
+
+  -- there is a header: a length and a kind, whether they fit each other, and whether the kind fits the record before
+  module _ (head : 4 ≤ length s - c .at) (len kind : ℕ) (fit follow : Bool) where
+    abbrev Header : Type 0
+    Header = (len ≡ lengthAt s (c .at)) × (kind ≡ kindAt s (c .at)) × (fit ≡ isRecord kind len) × (follow ≡ mayFollow (c .last) kind)
+
+    headed : ltb (length s) (c .at + 4) ≡ false
+    headed = le-ltb (length s) (c .at + 4) (omega arith)
+
+    placed : Header → (b : Bool) → not (fit && follow) ≡ b
+        → not (isRecord (kindAt s (c .at)) (lengthAt s (c .at)) && mayFollow (c .last) (kindAt s (c .at))) ≡ b
+    placed h b t = rw (← (h .0), ← (h .1), ← (h .2), ← (h .3)) t
+
+    pub misplaced : Header → not (fit && follow) ≡ true → r ≡ Stop (refusal 30 (c .at)) → r ≡ stepOf room s c
+    unfolding stepOf faultOf
+    misplaced h t e = rw (headed, placed h true t) e
+
+    module _ (h : Header) (t : not (fit && follow) ≡ false) where
+      pub cut-body : length s - c .at - 4 < len → r ≡ Stop (refusal 31 (c .at)) → r ≡ stepOf room s c
+      unfolding stepOf faultOf
+      cut-body l e = rw (headed, placed h false t, ← (h .0), lt-ltb (length s) (c .at + 4 + len) (omega arith)) e
+
+      -- the body is there; whether its kind is full
+      module _ (body : len ≤ length s - c .at - 4) (full : Bool) (f : full ≡ isFull room (c .had) kind) where
+        bodied : ltb (length s) (c .at + 4 + lengthAt s (c .at)) ≡ false
+        bodied = rw (← (h .0)) (le-ltb (length s) (c .at + 4 + len) (omega arith))
+
+        filled : (b : Bool) → full ≡ b → isFull room (c .had) (kindAt s (c .at)) ≡ b
+        filled b u = rw (← (h .1), ← f) u
+
+        pub too-many : full ≡ true → r ≡ Stop (refusal 32 (c .at)) → r ≡ stepOf room s c
+        unfolding stepOf faultOf
+        too-many u e = rw (headed, placed h false t, bodied, filled true u) e
+
+        module _ (u : full ≡ false) where
+          fine : faultOf room s c ≡ Fine
+          unfolding faultOf
+          fine = rw (headed, placed h false t, bodied, filled false u)
+
+          pub ended : kind ≡ 5 → r ≡ closed (says (endFaults s) (c .at + 4)) → r ≡ stepOf room s c
+          unfolding stepOf
+          ended k e = rw fine (taken _ (eq-eqb _ 5 (sym (h .1) ∙ k)) e)
+
+          pub onwards : (kind ≡ 5 → ⊥) → r ≡ On (record { at = c .at + 4 + len; last = kind; had = counted kind (c .had) }) → r ≡ stepOf room s c
+          unfolding stepOf
+          onwards k e = rw fine (left _ (ne-eqb _ 5 (λ q. k (h .1 ∙ q))) (rw (← (h .0), ← (h .1)) e))

@@ -1,0 +1,16 @@
+pub mod Pasting
+pub mod Values
+pub mod Stepping
+pub mod Faults
+pub mod Held
+pub mod Settled
+pub mod Encoding
+pub mod Writing
+pub mod Firsts
+pub mod Bytewise
+pub mod Along
+pub mod Trips
+pub mod Standing
+pub mod Back
+pub mod Prefix
+pub mod Slips

@@ -1,0 +1,93 @@
+use borrow.Author.Needs.{needs}
+use Prim.Native.Nat.{_-_, _≤_}
+use native.Mathlib.Omega.{arith}
+use mathlib.Core.Path.{_≡_, refl, sym, _∙_}
+use denote.Ref.{now}
+use lib.ListN.{length}
+use Rattle.job.specs.Bytes.{joined, pasted}
+use Rattle.job.specs.Format.{poseRecord}
+use Rattle.job.proofs.Pasting.{pasted-none}
+use Rattle.job.proofs.Writing.{turn-fits, pose-put}
+use Rattle.job.proofs.put_poses.Statement.{statement}
+use Rattle.job.proofs.put_poses.Tie as tie
+
+abbrev Inv-loop : tie.InvT-loop
+Inv-loop out₀ at poses n i₀ out i = (i ≤ n) × (length out ≡ length out₀) × (out ≡ pasted at (joined (poseRecord poses) i) out₀)
+
+abbrev μ-loop : tie.MeasureT-loop
+μ-loop out₀ at poses n i₀ out i = n - i
+
+loop-holds : tie.Need-loop-holds Inv-loop μ-loop
+unfolding joined
+loop-holds c = (omega arith, refl, sym (pasted-none _ _))
+
+mul-put-header : tie.Need-mul-put-header Inv-loop μ-loop
+mul-put-header c = omega arith
+
+add-put-header : tie.Need-add-put-header Inv-loop μ-loop
+add-put-header c = omega arith
+
+put-header-requires : tie.Need-put-header-requires Inv-loop μ-loop
+put-header-requires c κs = search needs
+
+mul-put64 : tie.Need-mul-put64 Inv-loop μ-loop
+mul-put64 c = omega arith
+
+add-put64 : tie.Need-add-put64 Inv-loop μ-loop
+add-put64 c = omega arith
+
+add-put64-2 : tie.Need-add-put64-2 Inv-loop μ-loop
+add-put64-2 c = omega arith
+
+mul-put64-2 : tie.Need-mul-put64-2 Inv-loop μ-loop
+mul-put64-2 c = omega arith
+
+put64-requires : tie.Need-put64-requires Inv-loop μ-loop
+put64-requires c κs = search needs
+
+add-i : tie.Need-add-i Inv-loop μ-loop
+add-i c = omega arith
+
+loop-less : tie.Need-loop-less Inv-loop μ-loop
+loop-less c = omega arith
+
+loop-again : tie.Need-loop-again Inv-loop μ-loop
+loop-again c =
+    let u = c .before .before in let v = u .before .before .before .before in let l = v .before .before .before .loop in
+    let s = v .before .before .before .before .before .before in let a = s .args in
+    let f = turn-fits 100 (l .i) (a .n) (a .at) (length (now (a .out))) (v .before .before .loop-test .taken) (s .pre .0) in (
+      f .0,
+      u .put64 .kept .0 ∙ v .put-header .kept .0 ∙ l .inv .1,
+      rw (u .put64 .ensures, v .put-header .ensures)
+          (pose-put (now (a .poses)) (a .at) (l .i) (l .out) (now (a .out)) (l .inv .1) (f .1) (l .inv .2)),
+    )
+
+same-length : tie.Need-same-length Inv-loop μ-loop
+same-length c = omega arith
+
+returns : tie.Need-returns Inv-loop μ-loop
+returns c =
+    let l = c .before .loop in let a = c .before .before .before .before .args in
+    let e : l .i ≡ a .n = omega arith in
+    rw e at (l .inv .2)
+
+pub put-poses-spec : {M : Type 1} → statement M
+put-poses-spec =
+    tie.close
+    (tie.spec
+    Inv-loop
+    μ-loop
+    loop-holds
+    mul-put-header
+    add-put-header
+    put-header-requires
+    mul-put64
+    add-put64
+    add-put64-2
+    mul-put64-2
+    put64-requires
+    add-i
+    loop-less
+    loop-again
+    same-length
+    returns)

@@ -1,0 +1,275 @@
+-- The job file: document 02, Wish 1. What a job is, what its records are, which fault a record has, what reading answers and what writing writes.
+-- A number is a bit pattern here, and no float is looked at. Definitions only.
+use Prim.Native.Nat.{ℕ, zero, suc, _+_, _*_, _/_, _≤_, min}
+use mathlib.Core.Bool.{Bool, not, _&&_, _||_}
+use mathlib.Core.List.{List, [], _∷_, _++_}
+use lib.Dec.{eqb, ltb, leb}
+use lib.ListN.{length, getD}
+use Rattle.numbers.specs.Notation.{if-then}
+use Rattle.numbers.specs.Refusals.{refusal, Fault, fault, says, Row, row, verdict}
+use Rattle.numbers.specs.declared.Refusal.{Refusal}
+use Rattle.numbers.specs.declared.Verdict.{Verdict}
+use Rattle.numbers.specs.declared.Verdict.the-variants as verdict
+use Rattle.graph.specs.Table.{unfit}
+use Rattle.job.specs.Bytes.{valueAt, valuesAt, bytesOf, joined, bytesFrom, pasted}
+use Rattle.job.specs.declared.Tally.{Tally}
+use Rattle.job.specs.declared.Cursor.{Cursor}
+use Rattle.job.specs.declared.SettingBits.{SettingBits}
+use Rattle.job.specs.declared.Step.{Step}
+use Rattle.job.specs.declared.Step.the-variants as step
+use Rattle.job.specs.declared.Scanned.{Scanned}
+use Rattle.job.specs.declared.Scanned.the-variants as scanned
+use Rattle.job.specs.declared.Read.{Read}
+use Rattle.job.specs.declared.Read.the-variants as read
+use Rattle.job.specs.declared.Written.{Written}
+use Rattle.job.specs.declared.Written.the-variants as written
+
+-- ---- a job
+
+-- limit, cost tolerance, gradient tolerance and damping; twelve numbers a pose; two ends and eight numbers an edge; the fixed entries
+pub record Job : Type 0 where
+  pub settings : List ℕ
+  pub poses : List ℕ
+  pub ends : List ℕ
+  pub edges : List ℕ
+  pub fixed : List ℕ
+
+-- nothing was read yet: no setting has a value
+abbrev pub nothing : Job
+nothing = record { settings = []; poses = []; ends = []; edges = []; fixed = [] }
+
+abbrev pub tallyOf : Job → Tally
+tallyOf j = record { poses = length (j .poses) / 12; edges = length (j .ends) / 2; fixed = length (j .fixed) }
+
+-- ---- a job as bytes
+
+-- a record: the length of its body, its kind, its body
+abbrev pub recordOf : ℕ → List ℕ → List ℕ
+recordOf kind body = bytesOf 2 (length body) ++ bytesOf 2 kind ++ body
+
+-- kind 1, settings: u32 limit, two f32 tolerances, f32 damping
+abbrev pub settingsRecord : List ℕ → List ℕ
+settingsRecord settings = recordOf 1 (bytesFrom 4 4 settings 0)
+
+-- kind 2, pose i: 12 f64
+abbrev pub poseRecord : List ℕ → ℕ → List ℕ
+poseRecord poses i = recordOf 2 (bytesFrom 8 12 poses (12 * i))
+
+-- kind 3, edge i: 2 u32, 8 f32
+abbrev pub edgeRecord : List ℕ → List ℕ → ℕ → List ℕ
+edgeRecord ends edges i = recordOf 3 (bytesFrom 4 2 ends (2 * i) ++ bytesFrom 4 8 edges (8 * i))
+
+-- kind 4, fixed entry i: u32
+abbrev pub fixedRecord : List ℕ → ℕ → List ℕ
+fixedRecord fixed i = recordOf 4 (bytesFrom 4 1 fixed i)
+
+-- kind 5, the end: empty
+abbrev pub endRecord : List ℕ
+endRecord = recordOf 5 []
+
+unfoldable pub encoded : Job → List ℕ
+encoded j =
+    settingsRecord (j .settings)
+    ++ joined (poseRecord (j .poses)) (tallyOf j .poses)
+    ++ joined (edgeRecord (j .ends) (j .edges)) (tallyOf j .edges)
+    ++ joined (fixedRecord (j .fixed)) (tallyOf j .fixed)
+    ++ endRecord
+
+-- ---- which fault a record has
+
+abbrev pub lengthAt : List ℕ → ℕ → ℕ
+lengthAt s at = valueAt 2 s at
+
+abbrev pub kindAt : List ℕ → ℕ → ℕ
+kindAt s at = valueAt 2 s (at + 2)
+
+-- the kind is known, and the length is that of its body
+unfoldable pub isRecord : ℕ → ℕ → Bool
+isRecord kind len =
+    (eqb kind 1 && eqb len 16)
+    || ((eqb kind 2 && eqb len 96)
+    || ((eqb kind 3 && eqb len 40)
+    || ((eqb kind 4 && eqb len 4)
+    || (eqb kind 5 && eqb len 0))))
+
+-- settings come first, and once; kinds never fall. `last` is the kind of the record before, 0 where there is none
+unfoldable pub mayFollow : ℕ → ℕ → Bool
+mayFollow last kind = if-then (eqb last 0) (eqb kind 1) (not (eqb kind 1) && leb last kind)
+
+-- there is no room for one more of the kind
+unfoldable pub isFull : Tally → Tally → ℕ → Bool
+isFull room had kind =
+    (eqb kind 2 && leb (room .poses) (had .poses))
+    || ((eqb kind 3 && leb (room .edges) (had .edges))
+    || (eqb kind 4 && leb (room .fixed) (had .fixed)))
+
+-- a cut header, then a bad length, kind or order, a cut body, one too many; the place is where the record starts or should
+abbrev pub recordFaults : Tally → List ℕ → Cursor → List Fault
+recordFaults room s c =
+    fault 31 (λ at. ltb (length s) (at + 4))
+    ∷ fault 30 (λ at. not (isRecord (kindAt s at) (lengthAt s at) && mayFollow (c .last) (kindAt s at)))
+    ∷ fault 31 (λ at. ltb (length s) (at + 4 + lengthAt s at))
+    ∷ fault 32 (λ at. isFull room (c .had) (kindAt s at))
+    ∷ []
+
+unfoldable pub faultOf : Tally → List ℕ → Cursor → Verdict
+faultOf room s c = says (recordFaults room s c) (c .at)
+
+-- any byte after the end
+abbrev pub endFaults : List ℕ → List Fault
+endFaults s =
+    fault 30 (λ at. ltb at (length s))
+    ∷ []
+
+-- ---- reading, from record to record
+
+abbrev pub start : Cursor
+start = record { at = 0; last = 0; had = record { poses = 0; edges = 0; fixed = 0 } }
+
+abbrev pub one : Bool → ℕ
+one b = if-then b 1 0
+
+abbrev pub counted : ℕ → Tally → Tally
+counted kind t =
+    record { poses = t .poses + one (eqb kind 2); edges = t .edges + one (eqb kind 3); fixed = t .fixed + one (eqb kind 4) }
+
+-- behind the record at a cursor
+abbrev pub behind : List ℕ → Cursor → Cursor
+behind s c =
+    record { at = c .at + 4 + lengthAt s (c .at); last = kindAt s (c .at); had = counted (kindAt s (c .at)) (c .had) }
+
+-- what the record at a cursor leads to: the next one, the end, or a refusal
+abbrev pub closed : Verdict → Step
+closed verdict.Fine = step.Done
+closed (verdict.Refused r) = step.Stop r
+
+abbrev pub stepFrom : List ℕ → Cursor → Verdict → Step
+stepFrom s c (verdict.Refused r) = step.Stop r
+stepFrom s c verdict.Fine = if-then (eqb (kindAt s (c .at)) 5) (closed (says (endFaults s) (c .at + 4))) (step.On (behind s c))
+
+unfoldable pub stepOf : Tally → List ℕ → Cursor → Step
+stepOf room s c = stepFrom s c (faultOf room s c)
+
+-- the job with what the record at a place holds behind what it had
+abbrev pub numbersIf : Bool → List ℕ → List ℕ
+numbersIf b ns = if-then b ns []
+
+unfoldable pub holding : List ℕ → ℕ → Job → Job
+holding s at j =
+    record {
+      settings = j .settings ++ numbersIf (eqb (kindAt s at) 1) (valuesAt 4 4 s (at + 4));
+      poses = j .poses ++ numbersIf (eqb (kindAt s at) 2) (valuesAt 8 12 s (at + 4));
+      ends = j .ends ++ numbersIf (eqb (kindAt s at) 3) (valuesAt 4 2 s (at + 4));
+      edges = j .edges ++ numbersIf (eqb (kindAt s at) 3) (valuesAt 4 8 s (at + 12));
+      fixed = j .fixed ++ numbersIf (eqb (kindAt s at) 4) (valuesAt 4 1 s (at + 4));
+    }
+
+-- how reading ends
+pub data Reading : Type 0 where
+  taken : Tally → Job → Reading
+  refused : Refusal → Reading
+
+abbrev pub onward : (Cursor → Job → Reading) → List ℕ → Cursor → Job → Step → Reading
+onward next s c j (step.On d) = next d (holding s (c .at) j)
+onward next s c j step.Done = taken (c .had) j
+onward next s c j (step.Stop r) = refused r
+
+-- from a cursor on, with what was read so far, over at most n records
+unfoldable pub readFrom : ℕ → Tally → List ℕ → Cursor → Job → Reading
+readFrom zero room s c j = refused (refusal 31 (c .at))
+readFrom (suc n) room s c j = onward (readFrom n room s) s c j (stepOf room s c)
+
+-- every record takes four bytes or more, so there are fewer records than bytes
+unfoldable pub reading : Tally → List ℕ → Reading
+reading room s = readFrom (suc (length s)) room s start nothing
+
+-- ---- the reader: its answer, and the lent numbers
+
+pub record Space : Type 0 where
+  pub poses : List ℕ
+  pub ends : List ℕ
+  pub edges : List ℕ
+  pub fixed : List ℕ
+
+abbrev pub space : List ℕ → List ℕ → List ℕ → List ℕ → Space
+space poses ends edges fixed = record { poses = poses; ends = ends; edges = edges; fixed = fixed }
+
+-- whole poses, whole edges, fixed entries that there is space for
+abbrev pub roomIn : Space → Tally
+roomIn l = record { poses = length (l .poses) / 12; edges = min (length (l .ends) / 2) (length (l .edges) / 8); fixed = length (l .fixed) }
+
+-- the job's numbers from the start of each list on; what stands behind them is as found
+unfoldable pub filled : Job → Space → Space
+filled j l =
+    space (pasted 0 (j .poses) (l .poses)) (pasted 0 (j .ends) (l .ends)) (pasted 0 (j .edges) (l .edges)) (pasted 0 (j .fixed) (l .fixed))
+
+abbrev pub settingsFrom : List ℕ → SettingBits
+settingsFrom ns =
+    record { limit = getD ns 0 0; «cost_tolerance» = getD ns 1 0; «gradient_tolerance» = getD ns 2 0; damping = getD ns 3 0 }
+
+-- a refused job changes no lent number
+abbrev pub given : Space → Reading → Read × Space
+given l (taken t j) = (read.Job (settingsFrom (j .settings)) t, filled j l)
+given l (refused r) = (read.Refused r, l)
+
+unfoldable pub readInto : List ℕ → Space → Read × Space
+readInto s l = given l (reading (roomIn l) s)
+
+-- ---- the writer: its answer, and the output
+
+abbrev pub settingNumbers : SettingBits → List ℕ
+settingNumbers t = t .limit ∷ t .«cost_tolerance» ∷ t .«gradient_tolerance» ∷ t .damping ∷ []
+
+abbrev pub jobOf : SettingBits → Space → Job
+jobOf t l =
+    record {
+      settings = settingNumbers t;
+      poses = l .poses;
+      ends = l .ends;
+      edges = l .edges;
+      fixed = l .fixed;
+    }
+
+-- row 2 of poses, ends and edge numbers (no output of poses is asked for), then an output too short
+abbrev pub writeRows : Job → List ℕ → List Row
+writeRows j out =
+    row 2 (unfit (length (j .poses)) (length (j .ends)) (length (j .edges)) (length (j .poses)))
+    ∷ row 36 (ltb (length out) (length (encoded j)))
+    ∷ []
+
+abbrev pub writtenAs : Job → List ℕ → Verdict → Written × List ℕ
+writtenAs j out verdict.Fine = (written.Bytes (length (encoded j)), pasted 0 (encoded j) out)
+writtenAs j out (verdict.Refused r) = (written.Refused r, out)
+
+unfoldable pub writtenInto : Job → List ℕ → Written × List ℕ
+writtenInto j out = writtenAs j out (verdict (writeRows j out))
+
+-- ---- for the functions behind the reader and the writer; nothing above rests on it
+
+-- a cursor that reading can come to: within the bytes, and it counted no more than it passed
+abbrev pub CursorIn : List ℕ → Cursor → Type 0
+CursorIn s c = (c .at ≤ length s) × (c .had .poses ≤ c .at) × (c .had .edges ≤ c .at) × (c .had .fixed ≤ c .at)
+
+abbrev pub scannedAs : Reading → Scanned
+scannedAs (taken t j) = scanned.Whole t
+scannedAs (refused r) = scanned.Refused r
+
+abbrev pub IsTaken : Reading → Type 0
+IsTaken (taken t j) = Unit {0}
+IsTaken (refused r) = ⊥
+
+-- what the record at a cursor holds, behind what was counted before
+unfoldable pub taking : List ℕ → Cursor → Space → Space
+taking s c l =
+    space (pasted (12 * c .had .poses) (numbersIf (eqb (kindAt s (c .at)) 2) (valuesAt 8 12 s (c .at + 4))) (l .poses))
+    (pasted (2 * c .had .edges) (numbersIf (eqb (kindAt s (c .at)) 3) (valuesAt 4 2 s (c .at + 4))) (l .ends))
+    (pasted (8 * c .had .edges) (numbersIf (eqb (kindAt s (c .at)) 3) (valuesAt 4 8 s (c .at + 12))) (l .edges))
+    (pasted (c .had .fixed) (numbersIf (eqb (kindAt s (c .at)) 4) (valuesAt 4 1 s (c .at + 4))) (l .fixed))
+
+abbrev pub filledBy : Reading → Space → Space
+filledBy (taken t j) l = filled j l
+filledBy (refused r) l = l
+
+-- the bytes of a job of so many poses, edges and fixed entries
+abbrev pub sizeOf : Tally → ℕ
+sizeOf t = 24 + 100 * t .poses + 44 * t .edges + 8 * t .fixed
