@@ -32,6 +32,7 @@ recordsOf t j =
 pub record Along (room : Tally) (s : List ℕ) (c : Cursor) (j : Job) : Type 0 where
   pub before : c .last ≡ 0 → (c ≡ start) × (j ≡ nothing)
   pub settings : 0 < c .last → j .settings ≡ valuesAt 4 4 s 4
+  pub opened : 0 < c .last → (kindAt s 0 ≡ 1) × (20 ≤ length s)
   pub poses : length (j .poses) ≡ 12 * c .had .poses
   pub ends : length (j .ends) ≡ 2 * c .had .edges
   pub edges : length (j .edges) ≡ 8 * c .had .edges
@@ -53,6 +54,7 @@ along-start room s =
     record {
       before = λ e. (refl, refl);
       settings = λ h. absurd (omega arith);
+      opened = λ h. absurd (omega arith);
       poses = refl;
       ends = refl;
       edges = refl;
@@ -190,6 +192,7 @@ module _ (room : Tally) (s : List ℕ) where
       record {
         before = λ e. absurd (omega arith);
         settings = λ q. refl;
+        opened = λ q. (k, h);
         poses = refl;
         ends = refl;
         edges = refl;
@@ -218,6 +221,7 @@ module _ (room : Tally) (s : List ℕ) where
         record {
           before = λ e. absurd (omega arith);
           settings = λ q. a .settings some;
+          opened = λ q. a .opened some;
           poses = length-more (j .poses) 8 12 (c .at + 4) (12 * c .had .poses) s (a .poses) ∙ omega arith;
           ends = a .ends;
           edges = a .edges;
@@ -249,6 +253,7 @@ module _ (room : Tally) (s : List ℕ) where
         record {
           before = λ e. absurd (omega arith);
           settings = λ q. a .settings some;
+          opened = λ q. a .opened some;
           poses = a .poses;
           ends = length-more (j .ends) 4 2 (c .at + 4) (2 * c .had .edges) s (a .ends) ∙ omega arith;
           edges = length-more (j .edges) 4 8 (c .at + 12) (8 * c .had .edges) s (a .edges) ∙ omega arith;
@@ -285,6 +290,7 @@ module _ (room : Tally) (s : List ℕ) where
         record {
           before = λ e. absurd (omega arith);
           settings = λ q. a .settings some;
+          opened = λ q. a .opened some;
           poses = a .poses;
           ends = a .ends;
           edges = a .edges;

@@ -20,8 +20,11 @@ use Rattle.job.specs.Format.{Job, nothing, tallyOf, settingsRecord, pose
 use Rattle.job.specs.Format.{kindAt, isRecord, mayFollow, isFull, faultOf, start, counted, stepFrom, stepOf, holding, taken, reading, CursorIn}
 use Rattle.job.proofs.Pasting.{length-joined}
 use Rattle.job.proofs.Stepping.{from, from-start, from-on, from-done, cursor-start}
-use Rattle.job.proofs.Standing.{length-bytes, Stands, stands-whole, moved, stands-first, stands-second, stands-each, values-stand}
-use Rattle.job.proofs.Standing.{Header, length-record, body-stands, header-stands}
+use Rattle.job.proofs.Encoding.{length-bytesFrom, length-recordOf, length-settingsRecord, length-poseRecord, length-edgeRecord, length-fixedRecord}
+use Rattle.job.proofs.Bytewise.{Bytes}
+use Rattle.job.proofs.Trips.{Wide, read-wide, read-settings, read-lengths, read-tally}
+use Rattle.job.proofs.Standing.{Stands, stands-whole, moved, stands-first, stands-second, stands-each, values-stand}
+use Rattle.job.proofs.Standing.{Header, body-stands, header-stands}
 
 -- a job whose numbers fit: four settings, whole poses and edges, each number within its width
 pub record Whole (j : Job) : Type 0 where
@@ -29,34 +32,14 @@ pub record Whole (j : Job) : Type 0 where
   pub poses-whole : length (j .poses) ≡ 12 * tallyOf j .poses
   pub ends-whole : length (j .ends) ≡ 2 * tallyOf j .edges
   pub edges-whole : length (j .edges) ≡ 8 * tallyOf j .edges
-  pub settings-wide : (k : ℕ) → getD (j .settings) k 0 < 256 ^ 4
-  pub poses-wide : (k : ℕ) → getD (j .poses) k 0 < 256 ^ 8
-  pub ends-wide : (k : ℕ) → getD (j .ends) k 0 < 256 ^ 4
-  pub edges-wide : (k : ℕ) → getD (j .edges) k 0 < 256 ^ 4
-  pub fixed-wide : (k : ℕ) → getD (j .fixed) k 0 < 256 ^ 4
+  pub wide : Wide j
 
 -- ---- lengths
-
-length-from : (w n : ℕ) (ns : List ℕ) (i : ℕ) → length (bytesFrom w n ns i) ≡ w * n
-length-from w n ns i = length-joined (λ k. bytesOf w (getD ns (i + k) 0)) w n (λ k. length-bytes w (getD ns (i + k) 0))
 
 length-edge-body : (ends edges : List ℕ) (i : ℕ) → length (bytesFrom 4 2 ends (2 * i) ++ bytesFrom 4 8 edges (8 * i)) ≡ 40
 length-edge-body ends edges i =
     length-append (bytesFrom 4 2 ends (2 * i)) (bytesFrom 4 8 edges (8 * i))
-    ∙ omega (arith, length-from 4 2 ends (2 * i), length-from 4 8 edges (8 * i))
-
-length-settings : (ns : List ℕ) → length (settingsRecord ns) ≡ 20
-length-settings ns = length-record 1 (bytesFrom 4 4 ns 0) ∙ ap (λ (x : ℕ). 4 + x) (length-from 4 4 ns 0)
-
-length-pose : (ns : List ℕ) (i : ℕ) → length (poseRecord ns i) ≡ 100
-length-pose ns i = length-record 2 (bytesFrom 8 12 ns (12 * i)) ∙ ap (λ (x : ℕ). 4 + x) (length-from 8 12 ns (12 * i))
-
-length-edge : (ends edges : List ℕ) (i : ℕ) → length (edgeRecord ends edges i) ≡ 44
-length-edge ends edges i =
-    length-record 3 (bytesFrom 4 2 ends (2 * i) ++ bytesFrom 4 8 edges (8 * i)) ∙ ap (λ (x : ℕ). 4 + x) (length-edge-body ends edges i)
-
-length-fixed : (ns : List ℕ) (i : ℕ) → length (fixedRecord ns i) ≡ 8
-length-fixed ns i = length-record 4 (bytesFrom 4 1 ns i) ∙ ap (λ (x : ℕ). 4 + x) (length-from 4 1 ns i)
+    ∙ omega (arith, length-bytesFrom 4 2 ends (2 * i), length-bytesFrom 4 8 edges (8 * i))
 
 -- the first numbers of a list, and so many behind them
 more-taken : (l : List ℕ) (a n : ℕ) → a + n ≤ length l → take a l ++ table (λ k. getD l (a + k) 0) n ≡ take (a + n) l
@@ -175,16 +158,16 @@ module _ (room : Tally) (j : Job) (p e f : ℕ) (s : List ℕ) where
   length-to-poses : length to-poses ≡ 20 + 100 * p
   length-to-poses =
       length-append settings-part poses-part
-      ∙ omega (arith, length-settings (j .settings), length-joined (poseRecord (j .poses)) 100 p (length-pose (j .poses)))
+      ∙ omega (arith, length-settingsRecord (j .settings), length-joined (poseRecord (j .poses)) 100 p (length-poseRecord (j .poses)))
 
   length-to-edges : length to-edges ≡ 20 + 100 * p + 44 * e
   length-to-edges =
       length-append to-poses edges-part
-      ∙ omega (arith, length-to-poses, length-joined (edgeRecord (j .ends) (j .edges)) 44 e (length-edge (j .ends) (j .edges)))
+      ∙ omega (arith, length-to-poses, length-joined (edgeRecord (j .ends) (j .edges)) 44 e (length-edgeRecord (j .ends) (j .edges)))
 
   length-to-fixed : length to-fixed ≡ 20 + 100 * p + 44 * e + 8 * f
   length-to-fixed =
-      length-append to-edges fixed-part ∙ omega (arith, length-to-edges, length-joined (fixedRecord (j .fixed)) 8 f (length-fixed (j .fixed)))
+      length-append to-edges fixed-part ∙ omega (arith, length-to-edges, length-joined (fixedRecord (j .fixed)) 8 f (length-fixedRecord (j .fixed)))
 
   module _ (is : s ≡ to-fixed ++ endRecord) (four : length (j .settings) ≡ 4)
       (poses-whole : length (j .poses) ≡ 12 * p) (ends-whole : length (j .ends) ≡ 2 * e) (edges-whole : length (j .edges) ≡ 8 * e)
@@ -193,7 +176,7 @@ module _ (room : Tally) (j : Job) (p e f : ℕ) (s : List ℕ) where
       (fixed-wide : (k : ℕ) → getD (j .fixed) k 0 < 256 ^ 4)
       (poses-fit : p ≤ room .poses) (edges-fit : e ≤ room .edges) (fixed-fit : f ≤ room .fixed) where
     size : length s ≡ 24 + 100 * p + 44 * e + 8 * f
-    size = ap length is ∙ length-append to-fixed endRecord ∙ omega (arith, length-to-fixed, length-record 5 [])
+    size = ap length is ∙ length-append to-fixed endRecord ∙ omega (arith, length-to-fixed, length-recordOf 5 [])
 
     all-stands : Stands s 0 (to-fixed ++ endRecord)
     all-stands = subst (Stands s 0) is (stands-whole s)
@@ -209,17 +192,17 @@ module _ (room : Tally) (j : Job) (p e f : ℕ) (s : List ℕ) where
 
     pose-stands : (i : ℕ) → i < p → Stands s (20 + 100 * i + 44 * 0 + 8 * 0) (poseRecord (j .poses) i)
     pose-stands i h =
-        moved (omega arith) (stands-each (poseRecord (j .poses)) 100 p i (length-pose (j .poses)) h
-        (stands-second settings-part poses-part 20 (length-settings (j .settings)) to-poses-stands))
+        moved (omega arith) (stands-each (poseRecord (j .poses)) 100 p i (length-poseRecord (j .poses)) h
+        (stands-second settings-part poses-part 20 (length-settingsRecord (j .settings)) to-poses-stands))
 
     edge-stands : (k : ℕ) → k < e → Stands s (20 + 100 * p + 44 * k + 8 * 0) (edgeRecord (j .ends) (j .edges) k)
     edge-stands k h =
-        moved (omega arith) (stands-each (edgeRecord (j .ends) (j .edges)) 44 e k (length-edge (j .ends) (j .edges)) h
+        moved (omega arith) (stands-each (edgeRecord (j .ends) (j .edges)) 44 e k (length-edgeRecord (j .ends) (j .edges)) h
         (stands-second to-poses edges-part (20 + 100 * p) length-to-poses to-edges-stands))
 
     fixed-stands : (m : ℕ) → m < f → Stands s (20 + 100 * p + 44 * e + 8 * m) (fixedRecord (j .fixed) m)
     fixed-stands m h =
-        moved (omega arith) (stands-each (fixedRecord (j .fixed)) 8 f m (length-fixed (j .fixed)) h
+        moved (omega arith) (stands-each (fixedRecord (j .fixed)) 8 f m (length-fixedRecord (j .fixed)) h
         (stands-second to-edges fixed-part (20 + 100 * p + 44 * e) length-to-edges to-fixed-stands))
 
     end-stands : Stands s (20 + 100 * p + 44 * e + 8 * f) endRecord
@@ -232,7 +215,7 @@ module _ (room : Tally) (j : Job) (p e f : ℕ) (s : List ℕ) where
     settings-turn =
         let body = bytesFrom 4 4 (j .settings) 0 in
         let st : Stands s 0 settings-part = stands-first settings-part poses-part to-poses-stands in
-        let h = header-stands 1 16 body (length-from 4 4 (j .settings) 0) (lit< tt) (lit< tt) st in
+        let h = header-stands 1 16 body (length-bytesFrom 4 4 (j .settings) 0) (lit< tt) (lit< tt) st in
         turn room s start (now 0 0 0 1) nothing (firsts j 0 0 0) 1 16 (cursor-start s) (lit< tt) h refl refl refl refl
         (holds-settings s 0 nothing (h .kind-is) (j .settings)
         (values-stand 4 (λ k. getD (j .settings) (0 + k) 0) 4 (λ k. settings-wide (0 + k)) (body-stands 1 body st)
@@ -243,7 +226,7 @@ module _ (room : Tally) (j : Job) (p e f : ℕ) (s : List ℕ) where
     pose-turn i l q u v =
         let body = bytesFrom 8 12 (j .poses) (12 * i) in
         let st = pose-stands i q in
-        let h = header-stands 2 96 body (length-from 8 12 (j .poses) (12 * i)) (lit< tt) (lit< tt) st in
+        let h = header-stands 2 96 body (length-bytesFrom 8 12 (j .poses) (12 * i)) (lit< tt) (lit< tt) st in
         let w = h .whole in
         let z : 12 * i + 12 ≡ 12 * suc i = omega arith in
         turn room s (now i 0 0 l) (now (suc i) 0 0 2) (firsts j i 0 0) (firsts j (suc i) 0 0) 2 96
@@ -276,7 +259,7 @@ module _ (room : Tally) (j : Job) (p e f : ℕ) (s : List ℕ) where
         ∙ more-taken (j .ends) (2 * k) 2 (omega arith) ∙ ap (λ (x : ℕ). take x (j .ends)) y)
         (ap (λ (x : List ℕ). take (8 * k) (j .edges) ++ x)
         (values-stand 4 (λ i. getD (j .edges) (8 * k + i) 0) 8 (λ i. edges-wide (8 * k + i))
-        (moved (omega arith) (stands-second ends edges 8 (length-from 4 2 (j .ends) (2 * k)) both)))
+        (moved (omega arith) (stands-second ends edges 8 (length-bytesFrom 4 2 (j .ends) (2 * k)) both)))
         ∙ more-taken (j .edges) (8 * k) 8 (omega arith) ∙ ap (λ (x : ℕ). take x (j .edges)) z))
 
     fixed-turn : (m l : ℕ) → m < f → 0 < l → l ≤ 4 → from room s (now p e m l) (firsts j p e m) ≡ from room s (now p e (suc m) 4) (firsts j p e (suc m))
@@ -284,7 +267,7 @@ module _ (room : Tally) (j : Job) (p e f : ℕ) (s : List ℕ) where
     fixed-turn m l q u v =
         let body = bytesFrom 4 1 (j .fixed) m in
         let st = fixed-stands m q in
-        let h = header-stands 4 4 body (length-from 4 1 (j .fixed) m) (lit< tt) (lit< tt) st in
+        let h = header-stands 4 4 body (length-bytesFrom 4 1 (j .fixed) m) (lit< tt) (lit< tt) st in
         let w = h .whole in
         let z : m + 1 ≡ suc m = omega arith in
         turn room s (now p e m l) (now p e (suc m) 4) (firsts j p e m) (firsts j p e (suc m)) 4 4
@@ -334,7 +317,7 @@ pub written-read : (room : Tally) (j : Job) → Whole j → tallyOf j .poses ≤
 unfolding encoded
 written-read room j w a b c =
     read-back room j (tallyOf j .poses) (tallyOf j .edges) (tallyOf j .fixed) (encoded j) refl (w .four) (w .poses-whole) (w .ends-whole) (w .edges-whole) refl
-    (w .settings-wide) (w .poses-wide) (w .ends-wide) (w .edges-wide) (w .fixed-wide) a b c
+    (w .wide .settings) (w .wide .poses) (w .wide .ends) (w .wide .edges) (w .wide .fixed) a b c
 
 taken-job : (t t' : Tally) (j j' : Job) → taken t j ≡ taken t' j' → j ≡ j'
 taken-job t t' j j' e = cc
@@ -347,3 +330,16 @@ same-bytes-same-job j j' w w' e =
     taken-job t t' j j'
     (sym (written-read room j w (omega arith) (omega arith) (omega arith))
     ∙ ap (reading room) e ∙ written-read room j' w' (omega arith) (omega arith) (omega arith))
+
+-- every job that is read is such a job
+pub read-whole : (room : Tally) (s : List ℕ) (t : Tally) (j : Job) → Bytes s → reading room s ≡ taken t j → Whole j
+read-whole room s t j b e =
+    let n = read-lengths room s t j e in
+    let y = read-tally room s t j e .0 in
+    record {
+      four = read-settings room s t j e .1;
+      poses-whole = n .0 ∙ ap (λ (x : Tally). 12 * x .poses) y;
+      ends-whole = n .1 ∙ ap (λ (x : Tally). 2 * x .edges) y;
+      edges-whole = n .2 ∙ ap (λ (x : Tally). 8 * x .edges) y;
+      wide = read-wide room s t j b e;
+    }

@@ -14,7 +14,14 @@ use Rattle.job.specs.Format.{lengthAt, kindAt, isRecord, mayFollow, isFu
 use Rattle.job.specs.declared.Tally.{Tally}
 use Rattle.job.specs.declared.Cursor.{Cursor}
 use Rattle.job.specs.declared.Step.{Step}
-use Rattle.job.specs.declared.Step.the-variants.{On, Stop}
+use Rattle.job.specs.declared.Step.the-variants.{On, Done, Stop}
+
+-- behind the end record
+pub byte-behind : (s : List ℕ) (at : ℕ) → at < length s → Stop (refusal 30 at) ≡ closed (says (endFaults s) at)
+byte-behind s at h = rw (lt-ltb at (length s) h)
+
+pub nothing-behind : (s : List ℕ) (at : ℕ) → length s ≤ at → Done ≡ closed (says (endFaults s) at)
+nothing-behind s at h = rw (le-ltb at (length s) h)
 
 module _ (room : Tally) (s : List ℕ) (c : Cursor) (r : Step) (within : c .at ≤ length s) where
   pub cut-head : length s - c .at < 4 → r ≡ Stop (refusal 31 (c .at)) → r ≡ stepOf room s c

@@ -21,7 +21,7 @@ use Rattle.job.specs.declared.Cursor.{Cursor}
 use Rattle.job.specs.declared.Step.{Step}
 use Rattle.job.specs.declared.Step.the-variants as step
 use Rattle.job.specs.Bytes.{valueAt, valuesAt}
-use Rattle.job.specs.Format.{Job, kindAt, lengthAt, isRecord, mayFollow, isFull, faultOf, counted, stepFrom, stepOf}
+use Rattle.job.specs.Format.{Job, kindAt, lengthAt, isRecord, mayFollow, isFull, faultOf, counted, stepFrom, stepOf, readAtMost}
 use Rattle.job.specs.Format.{holding, onward, readFrom, reading, start, nothing}
 use Rattle.job.proofs.Stepping.{Kind, settings, pose, edge, fixed, end, kind-of, fault-free, first, room-for-pose, room-for-edge, room-for-fixed}
 use Rattle.job.proofs.Stepping.{went-on, enough, cursor-start}
@@ -106,7 +106,7 @@ body-most (edge p q) = omega arith
 body-most (fixed p q) = omega arith
 body-most (end p q) = omega arith
 
-module _ (room : Tally) (s : List ℕ) (b : ℕ) (most : 121 + 100 * room .poses + 44 * room .edges + 8 * room .fixed ≤ b) (long : b < length s) where
+module _ (room : Tally) (s : List ℕ) (b : ℕ) (most : readAtMost room ≤ b) (long : b < length s) where
   seen : length (take b s) ≡ b
   seen = length-take-le b s (omega arith)
 
@@ -186,7 +186,7 @@ module _ (room : Tally) (s : List ℕ) (b : ℕ) (most : 121 + 100 * room .poses
       enough room (take b s) (suc (length (take b s))) (suc (length s)) start nothing (cursor-start (take b s)) (omega arith) (omega arith)
       ∙ same (suc (length s)) start nothing (within-start room)
 
-pub prefix : (room : Tally) (s : List ℕ) (b : ℕ) → 121 + 100 * room .poses + 44 * room .edges + 8 * room .fixed ≤ b → reading room (take b s) ≡ reading room s
+pub prefix : (room : Tally) (s : List ℕ) (b : ℕ) → readAtMost room ≤ b → reading room (take b s) ≡ reading room s
 prefix room s b h =
     ⊎-elim (λ e. ap (reading room) (take-all b s (leb-true (length s) b e))) (λ e. cut-same room s b h (leb-false (length s) b e))
     (true-or-false (leb (length s) b))

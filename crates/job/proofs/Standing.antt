@@ -13,13 +13,9 @@ use Rattle.numbers.proofs.Tables.{table-ext}
 use Rattle.job.specs.Bytes.{valueAt, valuesAt, bytesOf, joined}
 use Rattle.job.specs.Format.{recordOf, kindAt, lengthAt}
 use Rattle.job.proofs.Pasting.{length-joined}
+use Rattle.job.proofs.Encoding.{length-bytesOf}
 
 -- ---- a number as bytes
-
-pub length-bytes : (w x : ℕ) → length (bytesOf w x) ≡ w
-unfolding bytesOf
-length-bytes zero x = refl
-length-bytes (suc w) x = ap suc (length-bytes w (x / 256))
 
 value-cons : (w x : ℕ) (s : List ℕ) (at : ℕ) → valueAt w (x ∷ s) (suc at) ≡ valueAt w s at
 unfolding valueAt
@@ -105,7 +101,7 @@ pub values-stand : {s : List ℕ} {at : ℕ} (w : ℕ) (x : ℕ → ℕ) (n : �
     → valuesAt w n s at ≡ table x n
 values-stand {s} {at} w x n l h =
     table-ext 0 (λ k. valueAt w s (at + w * k)) x n
-    (λ k p. value-stands w (x k) (l k) (stands-each (λ q. bytesOf w (x q)) w n k (λ q. length-bytes w (x q)) p h))
+    (λ k p. value-stands w (x k) (l k) (stands-each (λ q. bytesOf w (x q)) w n k (λ q. length-bytesOf w (x q)) p h))
 
 -- ---- the header of a record, and its body
 
@@ -115,11 +111,7 @@ pub record Header (s : List ℕ) (at kind len : ℕ) : Type 0 where
   pub whole : at + 4 + len ≤ length s
 
 header-length : (a b : ℕ) → length (bytesOf 2 a ++ bytesOf 2 b) ≡ 4
-header-length a b = length-append (bytesOf 2 a) (bytesOf 2 b) ∙ omega (arith, length-bytes 2 a, length-bytes 2 b)
-
-pub length-record : (kind : ℕ) (body : List ℕ) → length (recordOf kind body) ≡ 4 + length body
-length-record kind body =
-    length-append (bytesOf 2 (length body) ++ bytesOf 2 kind) body ∙ ap (λ (x : ℕ). x + length body) (header-length (length body) kind)
+header-length a b = length-append (bytesOf 2 a) (bytesOf 2 b) ∙ omega (arith, length-bytesOf 2 a, length-bytesOf 2 b)
 
 pub body-stands : (kind : ℕ) (body : List ℕ) {s : List ℕ} {at : ℕ} → Stands s at (recordOf kind body) → Stands s (at + 4) body
 body-stands kind body h = stands-second (bytesOf 2 (length body) ++ bytesOf 2 kind) body 4 (header-length (length body) kind) h
@@ -133,6 +125,6 @@ header-stands kind len body e k l h =
     let head = stands-first (n ++ m) body h in
     record {
       length-is = value-stands 2 (length body) (subst (λ (x : ℕ). x < 256 ^ 2) (sym e) l) (stands-first n m head) ∙ e;
-      kind-is = value-stands 2 kind k (stands-second n m 2 (length-bytes 2 (length body)) head);
+      kind-is = value-stands 2 kind k (stands-second n m 2 (length-bytesOf 2 (length body)) head);
       whole = omega arith;
     }

@@ -59,8 +59,12 @@ read-to room s t j e =
 -- ---- how long what is read is
 
 module _ (room : Tally) (s : List ℕ) (t : Tally) (j : Job) (e : reading room s ≡ taken t j) where
-  pub read-settings : (j .settings ≡ valuesAt 4 4 s 4) × (length (j .settings) ≡ 4)
-  read-settings = let x = read-to room s t j e in (x .along .settings (x .some), four-settings (x .along) (x .some))
+  -- the settings are those of the first record: there is no default
+  pub read-settings : (j .settings ≡ valuesAt 4 4 s 4) × (length (j .settings) ≡ 4) × (kindAt s 0 ≡ 1) × (20 ≤ length s)
+  read-settings =
+      let x = read-to room s t j e in
+      let o = x .along .opened (x .some) in
+      (x .along .settings (x .some), four-settings (x .along) (x .some), o .0, o .1)
 
   pub read-lengths : (length (j .poses) ≡ 12 * t .poses) × (length (j .ends) ≡ 2 * t .edges)
       × (length (j .edges) ≡ 8 * t .edges) × (length (j .fixed) ≡ t .fixed)

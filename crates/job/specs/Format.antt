@@ -183,6 +183,10 @@ readFrom (suc n) room s c j = onward (readFrom n room s) s c j (stepOf room s c)
 unfoldable pub reading : Tally → List ℕ → Reading
 reading room s = readFrom (suc (length s)) room s start nothing
 
+-- what stands past so many bytes changes no answer: settings and as many records as there is room for, then one more of the longest kind, and a byte
+abbrev pub readAtMost : Tally → ℕ
+readAtMost room = 121 + 100 * room .poses + 44 * room .edges + 8 * room .fixed
+
 -- ---- the reader: its answer, and the lent numbers
 
 pub record Space : Type 0 where

@@ -44,6 +44,10 @@ refusedText number place =
     ++ ascii " at " ++ decimal place
     ++ ascii "\n"
 
+-- a read that failed, which is no refusal
+unfoldable pub unreadableText : List ℕ
+unreadableText = ascii "can't read the input\n"
+
 -- ---- a line by value: up to 256 bytes; what does not fit is left out
 
 abbrev pub empty : Line

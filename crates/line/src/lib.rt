@@ -3,7 +3,7 @@ ghost use mathlib.Core.Path.{_≡_};
 ghost use mathlib.Core.List.{_++_};
 ghost use Prim.Native.Nat.{_≤_};
 ghost use lib.ListN.{length, take};
-ghost use Rattle.line.specs.Text.{decimal, ranText, refusedText, yesNo, empty as Text·empty, withByte, withText, lineOf};
+ghost use Rattle.line.specs.Text.{decimal, ranText, refusedText, unreadableText, yesNo, empty as Text·empty, withByte, withText, lineOf};
 
 // The first `used` bytes are the text.
 pub struct Line {
@@ -83,6 +83,12 @@ pub fn refused(number: u64, place: u64) -> Line
     let l = with_decimal(with_text(empty(), b"refused "), number);
     let l = with_decimal(with_text(l, b" at "), place);
     with_text(l, b"\n")
+}
+
+pub fn unreadable() -> Line
+    ensures { λ r. ⌜ r ≡ lineOf unreadableText ⌝ }
+{
+    with_text(empty(), b"can't read the input\n")
 }
 
 fn write(fd: i32, bytes: &[u8], used: usize) {
