@@ -2,3 +2,4 @@ pub mod Steps
 pub mod Telling
 pub mod Building
 pub mod Islands
+pub mod Jobs

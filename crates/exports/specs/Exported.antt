@@ -9,6 +9,7 @@ use lib.Ieee.{Float}
 use Rattle.numbers.specs.Notation.{if-then}
 use Rattle.numbers.specs.Walks.{every, Ended, done, stopped}
 use Rattle.numbers.specs.Refusals.{verdict}
+use Rattle.numbers.specs.declared.Refusal.{Refusal}
 use Rattle.numbers.specs.declared.Verdict.{Verdict}
 use Rattle.numbers.specs.declared.Verdict.the-variants as verdict
 use Rattle.graph.specs.Graph.{linksOf, freeCount}
@@ -56,10 +57,13 @@ abbrev pub numberOf : Answer → ℕ
 numberOf (answer.Joined j) = 0
 numberOf (answer.Refused r) = r .number
 
+abbrev pub refusedEight : Refusal → List ℕ
+refusedEight r = r .number ∷ place32 (r .place) ∷ 0 ∷ 0 ∷ 0 ∷ 0 ∷ 0 ∷ 0 ∷ []
+
 abbrev pub eightOf : Answer → List ℕ
 eightOf (answer.Joined j) =
     0 ∷ 0 ∷ j .iterations ∷ flag (j .converged) ∷ j .accepted ∷ j .rejected ∷ j .failed ∷ stopNumber (j .why) ∷ []
-eightOf (answer.Refused r) = r .number ∷ place32 (r .place) ∷ 0 ∷ 0 ∷ 0 ∷ 0 ∷ 0 ∷ 0 ∷ []
+eightOf (answer.Refused r) = refusedEight r
 
 -- both costs; as found where refused
 abbrev pub costsOf : List Float → Answer → List Float

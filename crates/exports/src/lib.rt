@@ -17,9 +17,11 @@ ghost use Rattle.decisions.specs.Run.{iterations};
 ghost use Rattle.decisions.specs.Machine.{stateOf};
 ghost use Rattle.sparse_pgo.specs.Parts.{answerOf};
 ghost use Rattle.sparse_pgo.specs.Optimize.{optimized};
+ghost use Rattle.job.specs.Format.{space, jobOf};
+ghost use Rattle.exports.specs.Jobs.{readOut, writeOut};
 ghost use Rattle.exports.specs.Layers.{at, matrixFrom, transformFrom, quatNumbers, transformNumbers, three};
 ghost use Rattle.exports.specs.Layers.{quaternionOut, productOut, inverseOut, logOut, expOut, retractOut, retractGravityOut, residualOut, solveOut};
-ghost use Rattle.exports.specs.Exported.{stopNumber, flag, place32, told, settings, lists, roomOf, exported};
+ghost use Rattle.exports.specs.Exported.{stopNumber, flag, place32, refusedEight, told, settings, lists, roomOf, exported};
 ghost use Rattle.exports.specs.Exported.{decidedAs, decideFrom, known, decided, assembling, builtOut, systemOf, assembleOut};
 use assembly::Assembled;
 use decisions::End;
@@ -30,6 +32,10 @@ use graph::Checked;
 use graph::Manifold;
 use graph::Room;
 use graph::Settings;
+use job::Read;
+use job::SettingBits;
+use job::Tally;
+use job::Written;
 use numbers::Refusal;
 use numbers::Verdict;
 use pose_conversion::Restored;
@@ -385,7 +391,7 @@ fn put_joined(answer: &mut [u32], costs: &mut [f32], j: Joined)
 
 fn put_refused(answer: &mut [u32], r: Refusal)
     requires { ⌜ length (now answer) ≡ 8 ⌝ }
-    ensures { λ _. ⌜ now (answer .exit) ≡ r .number ∷ place32 (r .place) ∷ 0 ∷ 0 ∷ 0 ∷ 0 ∷ 0 ∷ 0 ∷ [] ⌝ }
+    ensures { λ _. ⌜ now (answer .exit) ≡ refusedEight r ⌝ }
 {
     give_counts(answer, &[r.number, place_of(r.place), 0, 0, 0, 0, 0, 0]);
 }
@@ -817,4 +823,89 @@ pub extern "C" fn pgo_assemble(
     }
     let m = manifold_of(dof, vec_from(gravity));
     assemble(m, poses, ends, edges, fixed, work)
+}
+
+// ---- jobs
+
+fn put_read(answer: &mut [u32], t: SettingBits, had: Tally)
+    requires { ⌜ length (now answer) ≡ 8 ⌝ }
+    ensures { λ _. ⌜ now (answer .exit) ≡ t .limit ∷ t .«cost_tolerance» ∷ t .«gradient_tolerance» ∷ t .damping ∷ place32 (had .poses) ∷ place32 (had .edges) ∷ place32 (had .fixed) ∷ 0 ∷ [] ⌝ }
+{
+    give_counts(
+        answer,
+        &[
+            t.limit,
+            t.cost_tolerance,
+            t.gradient_tolerance,
+            t.damping,
+            place_of(had.poses),
+            place_of(had.edges),
+            place_of(had.fixed),
+            0,
+        ],
+    );
+}
+
+// Floats cross as their bit patterns. answer: limit, cost tolerance, gradient tolerance, damping, poses, edges, fixed, 0; or number, place and zeros.
+#[no_mangle]
+pub extern "C" fn pgo_read_job(
+    bytes: &[u8],
+    poses: &mut [u64],
+    ends: &mut [u32],
+    edges: &mut [u32],
+    fixed: &mut [u32],
+    answer: &mut [u32],
+) -> u32
+    ensures { λ r. ⌜ (r, space (now (poses .exit)) (now (ends .exit)) (now (edges .exit)) (now (fixed .exit)), now (answer .exit)) ≡ readOut (now (bytes .entry)) (space (now (poses .entry)) (now (ends .entry)) (now (edges .entry)) (now (fixed .entry))) (now (answer .entry)) ⌝ }
+{
+    if answer.len() != 8 {
+        return UNFIT;
+    }
+    match job::read_job(bytes, poses, ends, edges, fixed) {
+        Read::Job(t, had) => {
+            put_read(answer, t, had);
+            0
+        }
+        Read::Refused(r) => {
+            put_refused(answer, r);
+            r.number
+        }
+    }
+}
+
+// answer: bytes written, 0; or number, place.
+#[no_mangle]
+pub extern "C" fn pgo_write_job(
+    limit: u32,
+    cost_tolerance: u32,
+    gradient_tolerance: u32,
+    damping: u32,
+    poses: &[u64],
+    ends: &[u32],
+    edges: &[u32],
+    fixed: &[u32],
+    out: &mut [u8],
+    answer: &mut [u32],
+) -> u32
+    ensures { λ r. ⌜ (r, now (out .exit), now (answer .exit)) ≡ writeOut (jobOf record { limit = limit; «cost_tolerance» = «cost_tolerance»; «gradient_tolerance» = «gradient_tolerance»; damping = damping } (space (now (poses .entry)) (now (ends .entry)) (now (edges .entry)) (now (fixed .entry)))) (now (out .entry)) (now (answer .entry)) ⌝ }
+{
+    if answer.len() != 2 {
+        return UNFIT;
+    }
+    let t = SettingBits {
+        limit,
+        cost_tolerance,
+        gradient_tolerance,
+        damping,
+    };
+    match job::write_job(t, poses, ends, edges, fixed, out) {
+        Written::Bytes(n) => {
+            give_counts(answer, &[place_of(n), 0]);
+            0
+        }
+        Written::Refused(r) => {
+            give_counts(answer, &[r.number, place_of(r.place)]);
+            r.number
+        }
+    }
 }
