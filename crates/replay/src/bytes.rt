@@ -1,6 +1,7 @@
 // Numbers in lent bytes, little-endian, floats by their bits. Past the end all bytes are 0.
 ghost use mathlib.Core.Path.{_≡_};
 ghost use Prim.Native.Nat.{_<_, _≤_};
+ghost use lib.ListN.{length};
 
 // No file reaches as far.
 const FAR: usize = 16777216;
@@ -46,7 +47,7 @@ fn u64_at(b: &[u8], at: usize, i: usize) -> u64 {
     wide(low) + wide(high) * 4294967296
 }
 
-pub fn least(m: usize, n: usize) -> usize
+fn least(m: usize, n: usize) -> usize
     ensures { λ r. ⌜ (r ≤ m) × (r ≤ n) ⌝ }
 {
     if m < n { m } else { n }
@@ -103,31 +104,45 @@ pub fn same64(x: f64, y: f64) -> bool {
     f64::to_bits(x) == f64::to_bits(y)
 }
 
-// ---- lists from `at` on
+// ---- lists from `at` on, by value: no record's list is longer
 
-pub fn load_u32s(xs: &mut [u32], b: &[u8], at: usize) {
+pub fn u32s(b: &[u8], at: usize) -> [u32; 4096]
+    ensures { λ r. ⌜ length r ≡ 4096 ⌝ }
+{
+    let mut xs = [0u32; 4096];
     let mut i = 0usize;
-    while i < xs.len() {
+    while i < 4096 {
         xs[i] = u32_at(b, at, i);
         i += 1;
     }
+    xs
 }
 
-pub fn load_f32s(xs: &mut [f32], b: &[u8], at: usize) {
+pub fn f32s(b: &[u8], at: usize) -> [f32; 4288]
+    ensures { λ r. ⌜ length r ≡ 4288 ⌝ }
+{
+    let mut xs = [0.0f32; 4288];
     let mut i = 0usize;
-    while i < xs.len() {
+    while i < 4288 {
         xs[i] = f32_at(b, at, i);
         i += 1;
     }
+    xs
 }
 
-pub fn load_f64s(xs: &mut [f64], b: &[u8], at: usize) {
+pub fn f64s(b: &[u8], at: usize) -> [f64; 2048]
+    ensures { λ r. ⌜ length r ≡ 2048 ⌝ }
+{
+    let mut xs = [0.0f64; 2048];
     let mut i = 0usize;
-    while i < xs.len() {
+    while i < 2048 {
         xs[i] = f64_at(b, at, i);
         i += 1;
     }
+    xs
 }
+
+// ---- whether a list is the same from `at` on
 
 pub fn same_u32s(xs: &[u32], b: &[u8], at: usize) -> bool {
     let mut i = 0usize;

@@ -10,12 +10,15 @@ const POSES: usize = 2048;
 
 const REST: usize = 4096;
 
-// How many numbers the poses have, and where the lists after them start; `end` is where the last ends.
+// How many numbers each list has, and where those after the poses start; `end` is where the last ends.
 pub struct Lists {
     pub poses: usize,
     pub ends: usize,
     pub edges: usize,
     pub fixed: usize,
+    pub ends_at: usize,
+    pub edges_at: usize,
+    pub fixed_at: usize,
     pub end: usize,
 }
 
@@ -31,34 +34,25 @@ pub fn manifold_of(b: &[u8]) -> Manifold {
 }
 
 pub fn lists_of(b: &[u8]) -> Lists
-    ensures { λ r. ⌜ (r .poses ≤ 2048) × (r .end ≤ 65608) ⌝ }
+    ensures { λ r. ⌜ (r .poses ≤ 2048) × (r .ends ≤ 4096) × (r .edges ≤ 4096) × (r .fixed ≤ 4096) × (r .end ≤ 65608) ⌝ }
 {
     let poses = bytes::count_at(b, 28, 0, POSES);
-    let ends = 72 + poses * 8;
-    let edges = ends + bytes::count_at(b, 28, 1, REST) * 4;
-    let fixed = edges + bytes::count_at(b, 28, 2, REST) * 4;
+    let ends = bytes::count_at(b, 28, 1, REST);
+    let edges = bytes::count_at(b, 28, 2, REST);
+    let fixed = bytes::count_at(b, 28, 3, REST);
+    let ends_at = 72 + poses * 8;
+    let edges_at = ends_at + ends * 4;
+    let fixed_at = edges_at + edges * 4;
     Lists {
         poses,
         ends,
         edges,
         fixed,
-        end: fixed + bytes::count_at(b, 28, 3, REST) * 4,
+        ends_at,
+        edges_at,
+        fixed_at,
+        end: fixed_at + fixed * 4,
     }
-}
-
-// Each list whole.
-pub fn load(
-    b: &[u8],
-    l: Lists,
-    poses: &mut [f64],
-    ends: &mut [u32],
-    edges: &mut [f32],
-    fixed: &mut [u32],
-) {
-    bytes::load_f64s(poses, b, 72);
-    bytes::load_u32s(ends, b, l.ends);
-    bytes::load_f32s(edges, b, l.edges);
-    bytes::load_u32s(fixed, b, l.fixed);
 }
 
 pub fn settings_of(b: &[u8]) -> Settings {

@@ -5,11 +5,9 @@ use graph::Edge;
 use graph::Manifold;
 use pose_conversion::Restored;
 use residual::Residual;
-use rotations::Mat3;
 use rotations::Mat3F32;
 use rotations::Moved;
 use rotations::Pose;
-use rotations::QuatF32;
 use rotations::Transform;
 use rotations::Twist;
 use rotations::Vec3;
@@ -37,27 +35,19 @@ fn vec64_at(b: &[u8], at: usize, i: usize) -> Vec3
     }
 }
 
+fn edge_at(b: &[u8], at: usize) -> Edge {
+    let xs = bytes::f32s(b, at);
+    graph::edge_at(&xs, 0)
+}
+
 fn transform_at(b: &[u8], at: usize) -> Transform {
-    Transform {
-        q: QuatF32 {
-            x: bytes::f32_at(b, at, 0),
-            y: bytes::f32_at(b, at, 1),
-            z: bytes::f32_at(b, at, 2),
-            w: bytes::f32_at(b, at, 3),
-        },
-        t: vec32_at(b, at, 4),
-    }
+    let edge = edge_at(b, at);
+    edge.measured
 }
 
 fn pose_at(b: &[u8], at: usize) -> Pose {
-    Pose {
-        rotation: Mat3 {
-            x: vec64_at(b, at, 0),
-            y: vec64_at(b, at, 3),
-            z: vec64_at(b, at, 6),
-        },
-        translation: vec64_at(b, at, 9),
-    }
+    let xs = bytes::f64s(b, at);
+    graph::pose_at(&xs, 0)
 }
 
 // The first n of six, then +0.
@@ -85,29 +75,14 @@ fn same_transform(a: Transform, b: &[u8], at: usize) -> bool
 fn same_twist(d: Twist, b: &[u8], at: usize) -> bool
     requires { ⌜ at < 4096 ⌝ }
 {
-    let six = [d.t.x, d.t.y, d.t.z, d.r.x, d.r.y, d.r.z];
+    let six = residual::six_of(d);
     (bytes::u32_at(b, at, 0) == 0) & bytes::same_f32s(&six, b, at + 4)
 }
 
 fn same_pose(p: Pose, b: &[u8], at: usize) -> bool
     requires { ⌜ at < 4096 ⌝ }
 {
-    let m = p.rotation;
-    let t = p.translation;
-    let twelve = [
-        m.x.x,
-        m.x.y,
-        m.x.z,
-        m.y.x,
-        m.y.y,
-        m.y.z,
-        m.z.x,
-        m.z.y,
-        m.z.z,
-        t.x,
-        t.y,
-        t.z,
-    ];
+    let twelve = graph::numbers_of(p);
     (bytes::u32_at(b, at, 0) == 0) & bytes::same_f64s(&twelve, b, at + 4)
 }
 
@@ -205,11 +180,7 @@ pub fn same_retract_with_gravity(b: &[u8]) -> bool {
 }
 
 pub fn same_residual(b: &[u8]) -> bool {
-    let edge = Edge {
-        measured: transform_at(b, 192),
-        weight: bytes::f32_at(b, 192, 7),
-    };
-    match residual::weighted_relative_residual(pose_at(b, 0), pose_at(b, 96), edge) {
+    match residual::weighted_relative_residual(pose_at(b, 0), pose_at(b, 96), edge_at(b, 192)) {
         Residual::Six(d) => same_twist(d, b, 224),
         Residual::Failed(_) => fails(b, 224),
     }

@@ -20,16 +20,6 @@ struct Told {
     costs: [f32; 2],
 }
 
-fn one_if_converged(w: Why) -> u32 {
-    match w {
-        Why::Budget => 0,
-        Why::Gradient => 1,
-        Why::Step => 1,
-        Why::Cost => 1,
-        Why::Damping => 0,
-    }
-}
-
 fn turned(answer: [u32; 8]) -> Told {
     Told {
         status: answer[0],
@@ -48,7 +38,7 @@ fn stopped(first: f32, s: State, w: Why) -> Told {
             0,
             0,
             iterations,
-            one_if_converged(w),
+            runs::one_if(sparse_pgo::has_converged(w)),
             s.accepted,
             s.rejected,
             s.failed,
@@ -110,22 +100,10 @@ pub fn is_whole(b: &[u8]) -> bool {
 }
 
 // Events and prices as many as the record says.
-fn same_with(b: &[u8], events: &mut [u32], prices: &mut [f32]) -> bool {
-    let n = bytes::count_at(b, 16, 0, EVENTS);
-    bytes::load_u32s(events, b, 20);
-    bytes::load_f32s(prices, b, 20 + n * 4);
-    let t = decided(b, events, prices);
-    same_told(t, b, 20 + n * 8)
-}
-
-fn same_in(b: &[u8], events: &mut [u32], prices: &mut [f32]) -> bool {
-    let n = bytes::count_at(b, 16, 0, events.len());
-    let m = bytes::count_at(b, 16, 0, prices.len());
-    same_with(b, &mut events[..n], &mut prices[..m])
-}
-
 pub fn same_list(b: &[u8]) -> bool {
-    let mut events = [0u32; 2048];
-    let mut prices = [0.0f32; 2048];
-    same_in(b, &mut events, &mut prices)
+    let n = bytes::count_at(b, 16, 0, EVENTS);
+    let events = bytes::u32s(b, 20);
+    let prices = bytes::f32s(b, 20 + n * 4);
+    let t = decided(b, &events[..n], &prices[..n]);
+    same_told(t, b, 20 + n * 8)
 }

@@ -10,6 +10,7 @@ mod systems;
 
 ghost use Prim.Native.Nat.{_≤_};
 ghost use lib.ListN.{length};
+use say::Tally;
 
 // `PGOV` and version 1.
 fn is_headed(file: &[u8]) -> bool {
@@ -55,24 +56,79 @@ fn same_item(kind: u32, b: &[u8]) -> bool {
     }
 }
 
-// Whether the items fill the record.
-fn items(kind: u32, b: &[u8], cases: &mut [u32; 32], differing: &mut [u32; 32]) -> bool {
+// What was counted, and whether all could be read.
+struct Counted {
+    whole: bool,
+    tally: Tally,
+}
+
+// Whole where the items fill the record.
+fn items(kind: u32, b: &[u8], before: Tally) -> Counted {
     let n = bytes::u32_at(b, 0, 0);
+    let mut tally = before;
     if b.len() < 4 {
-        return false;
+        return Counted {
+            whole: false,
+            tally,
+        };
     }
     let mut at = 4usize;
     let mut k = 0u32;
     while k < n {
         let size = item_size(kind, &b[at..]);
         if b.len() - at < size {
-            return false;
+            return Counted {
+                whole: false,
+                tally,
+            };
         }
-        say::count(kind, same_item(kind, &b[at..]), cases, differing);
+        tally = say::counted(tally, kind, same_item(kind, &b[at..]));
         at += size;
         k += 1;
     }
-    at == b.len()
+    Counted {
+        whole: at == b.len(),
+        tally,
+    }
+}
+
+// ---- a record that is one case
+
+fn is_whole(kind: u32, b: &[u8]) -> bool {
+    match kind {
+        1 => runs::is_whole(b),
+        2 => systems::is_whole_assembly(b),
+        3 => lists::is_whole(b),
+        _ => false,
+    }
+}
+
+// A run, or an assembly alone, of the lists that the record starts with.
+fn same_graph(kind: u32, b: &[u8]) -> bool {
+    let l = inputs::lists_of(b);
+    let p = l.poses;
+    let e = l.ends;
+    let f = l.edges;
+    let x = l.fixed;
+    let all_poses = bytes::f64s(b, 72);
+    let all_ends = bytes::u32s(b, l.ends_at);
+    let all_edges = bytes::f32s(b, l.edges_at);
+    let all_fixed = bytes::u32s(b, l.fixed_at);
+    let poses = &all_poses[..p];
+    let ends = &all_ends[..e];
+    let edges = &all_edges[..f];
+    let fixed = &all_fixed[..x];
+    if kind == 1 {
+        return runs::same_run(b, poses, ends, edges, fixed);
+    }
+    systems::same_assembly(b, poses, ends, edges, fixed)
+}
+
+fn same_record(kind: u32, b: &[u8]) -> bool {
+    if kind == 3 {
+        return lists::same_list(b);
+    }
+    same_graph(kind, b)
 }
 
 // ---- records
@@ -108,73 +164,59 @@ fn record_at(file: &[u8], at: usize) -> Record
     }
 }
 
-// Whether the record could be read.
-fn replayed(
-    kind: u32,
-    b: &[u8],
-    cases: &mut [u32; 32],
-    differing: &mut [u32; 32],
-    w32: &mut [f32],
-    w64: &mut [f64],
-) -> bool {
-    if kind == 1 {
-        if !runs::is_whole(b) {
-            return false;
-        }
-        say::count(kind, runs::same_run(b, w32, w64), cases, differing);
-        return true;
+// Whole where the record could be read.
+fn replayed(kind: u32, b: &[u8], before: Tally) -> Counted {
+    if (16 <= kind) & (kind <= 27) {
+        return items(kind, b, before);
     }
-    if kind == 2 {
-        if !systems::is_whole_assembly(b) {
-            return false;
-        }
-        say::count(kind, systems::same_assembly(b), cases, differing);
-        return true;
+    if !is_whole(kind, b) {
+        return Counted {
+            whole: false,
+            tally: before,
+        };
     }
-    if kind == 3 {
-        if !lists::is_whole(b) {
-            return false;
-        }
-        say::count(kind, lists::same_list(b), cases, differing);
-        return true;
-    }
-    if (kind < 16) | (27 < kind) {
-        return false;
-    }
-    items(kind, b, cases, differing)
+    let tally = say::counted(before, kind, same_record(kind, b));
+    Counted { whole: true, tally }
 }
 
-fn records(
-    file: &[u8],
-    cases: &mut [u32; 32],
-    differing: &mut [u32; 32],
-    w32: &mut [f32],
-    w64: &mut [f64],
-) -> bool {
+fn records(file: &[u8]) -> Counted {
     let n = bytes::u32_at(file, 8, 0);
+    let mut tally = say::nothing();
     let mut at = 12usize;
     let mut r = 0u32;
     while r < n {
         let record = record_at(file, at);
-        let whole = record.whole;
-        if !whole {
-            say::cut_short(r);
-            return false;
-        }
         let from = record.from;
         let to = record.to;
-        if !replayed(record.kind, &file[from..to], cases, differing, w32, w64) {
+        let there = record.whole;
+        if !there {
+            say::cut_short(r);
+            return Counted {
+                whole: false,
+                tally,
+            };
+        }
+        let c = replayed(record.kind, &file[from..to], tally);
+        tally = c.tally;
+        let known = c.whole;
+        if !known {
             say::unknown(r);
-            return false;
+            return Counted {
+                whole: false,
+                tally,
+            };
         }
         at = to;
         r += 1;
     }
     if at != file.len() {
         say::left_over();
-        return false;
+        return Counted {
+            whole: false,
+            tally,
+        };
     }
-    true
+    Counted { whole: true, tally }
 }
 
 fn replay(file: &[u8]) {
@@ -182,17 +224,21 @@ fn replay(file: &[u8]) {
         say::no_list();
         return;
     }
-    let mut cases = [0u32; 32];
-    let mut differing = [0u32; 32];
-    let mut w32 = [0.0f32; 262144];
-    let mut w64 = [0.0f64; 6144];
-    if records(file, &mut cases, &mut differing, &mut w32, &mut w64) {
-        say::report(&cases, &differing);
+    let c = records(file);
+    let whole = c.whole;
+    if whole {
+        let tally = c.tally;
+        say::report(tally);
     }
 }
 
+fn replay_input(file: &mut [u8]) {
+    let n = io::read_full(libc::STDIN_FILENO, file);
+    replay(&file[..n]);
+}
+
+// No list is longer.
 fn main() {
     let mut file = [0u8; 400000];
-    let n = io::read_full(libc::STDIN_FILENO, &mut file);
-    replay(&file[..n]);
+    replay_input(&mut file);
 }

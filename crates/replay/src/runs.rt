@@ -27,7 +27,7 @@ pub fn stop_of(w: Why) -> u32 {
     }
 }
 
-fn one_if(yes: bool) -> u32 {
+pub fn one_if(yes: bool) -> u32 {
     if yes { 1 } else { 0 }
 }
 
@@ -105,90 +105,20 @@ fn play(
     }
 }
 
-// The lists and what is lent, each as long as the record says.
-fn same_with(
-    b: &[u8],
-    poses: &mut [f64],
-    ends: &mut [u32],
-    edges: &mut [f32],
-    fixed: &mut [u32],
-    w32: &mut [f32],
-    w64: &mut [f64],
-    out: &mut [f64],
-) -> bool {
+// The run of these lists over what is lent, each as long as the record says, and the record's answer.
+pub fn same_run(b: &[u8], poses: &[f64], ends: &[u32], edges: &[f32], fixed: &[u32]) -> bool {
     let l = inputs::lists_of(b);
-    inputs::load(b, l, poses, ends, edges, fixed);
-    let a = play(b, poses, ends, edges, fixed, w32, w64, out);
-    same_answer(a, out, b, l.end)
-}
-
-fn same_lent(
-    b: &[u8],
-    poses: &mut [f64],
-    ends: &mut [u32],
-    edges: &mut [f32],
-    fixed: &mut [u32],
-    w32: &mut [f32],
-    w64: &mut [f64],
-    out: &mut [f64],
-) -> bool {
-    let n32 = bytes::count_at(b, 60, 0, w32.len());
-    let n64 = bytes::count_at(b, 60, 1, w64.len());
-    let n = bytes::count_at(b, 60, 2, out.len());
-    same_with(
-        b,
-        poses,
-        ends,
-        edges,
-        fixed,
-        &mut w32[..n32],
-        &mut w64[..n64],
-        &mut out[..n],
-    )
-}
-
-fn same_listed(
-    b: &[u8],
-    poses: &mut [f64],
-    ends: &mut [u32],
-    edges: &mut [f32],
-    fixed: &mut [u32],
-    w32: &mut [f32],
-    w64: &mut [f64],
-    out: &mut [f64],
-) -> bool {
-    let p = bytes::count_at(b, 28, 0, poses.len());
-    let e = bytes::count_at(b, 28, 1, ends.len());
-    let f = bytes::count_at(b, 28, 2, edges.len());
-    let x = bytes::count_at(b, 28, 3, fixed.len());
-    same_lent(
-        b,
-        &mut poses[..p],
-        &mut ends[..e],
-        &mut edges[..f],
-        &mut fixed[..x],
-        w32,
-        w64,
-        out,
-    )
-}
-
-pub fn same_run(b: &[u8], w32: &mut [f32], w64: &mut [f64]) -> bool {
-    let mut poses = [0.0f64; 2048];
-    let mut ends = [0u32; 4096];
-    let mut edges = [0.0f32; 4096];
-    let mut fixed = [0u32; 4096];
+    let n32 = bytes::count_at(b, 60, 0, 262144);
+    let n64 = bytes::count_at(b, 60, 1, 6144);
+    let n = bytes::count_at(b, 60, 2, 2048);
+    let mut work32 = [0.0f32; 262144];
+    let mut work64 = [0.0f64; 6144];
     let mut out = [STALE; 2048];
-    same_listed(
-        b,
-        &mut poses,
-        &mut ends,
-        &mut edges,
-        &mut fixed,
-        w32,
-        w64,
-        &mut out,
-    )
+    let w32 = &mut work32[..n32];
+    let w64 = &mut work64[..n64];
+    let new = &mut out[..n];
+    let a = play(b, poses, ends, edges, fixed, w32, w64, new);
+    same_answer(a, new, b, l.end)
 }
 
 // A run that was not refused gives its poses.

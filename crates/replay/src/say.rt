@@ -1,6 +1,19 @@
 // Counts of cases, and lines for a person.
 use libc::STDOUT_FILENO;
 
+// By kind: how many cases there were, and how many differed.
+pub struct Tally {
+    pub cases: [u32; 32],
+    pub differing: [u32; 32],
+}
+
+pub fn nothing() -> Tally {
+    Tally {
+        cases: [0; 32],
+        differing: [0; 32],
+    }
+}
+
 fn text(s: &[u8]) {
     io::write_all(STDOUT_FILENO, s);
 }
@@ -9,39 +22,79 @@ fn number(n: u32) {
     io::print_decimal(STDOUT_FILENO, n as u64);
 }
 
-fn name(kind: u32) {
-    match kind {
-        1 => text(b"runs"),
-        2 => text(b"assemblies"),
-        3 => text(b"lists"),
-        16 => text(b"narrow"),
-        17 => text(b"sqrt32"),
-        18 => text(b"sqrt64"),
-        19 => text(b"quaternion_of_matrix"),
-        20 => text(b"product"),
-        21 => text(b"inverse"),
-        22 => text(b"exp"),
-        23 => text(b"log"),
-        24 => text(b"retract"),
-        25 => text(b"retract_with_gravity"),
-        26 => text(b"residual"),
-        _ => text(b"solve"),
+// Where the name of each kind starts among the names; it ends where the next starts.
+const STARTS: [usize; 33] = [
+    0,
+    0,
+    4,
+    14,
+    19,
+    19,
+    19,
+    19,
+    19,
+    19,
+    19,
+    19,
+    19,
+    19,
+    19,
+    19,
+    19,
+    25,
+    31,
+    37,
+    57,
+    64,
+    71,
+    74,
+    77,
+    84,
+    104,
+    112,
+    117,
+    117,
+    117,
+    117,
+    117,
+];
+
+fn part(s: &[u8], from: usize, to: usize) {
+    if from <= to {
+        if to <= s.len() {
+            text(&s[from..to]);
+        }
     }
 }
 
-// A case that differs is named by its number among those of its kind, from 0 on.
-pub fn count(kind: u32, same: bool, cases: &mut [u32; 32], differing: &mut [u32; 32]) {
+fn name(kind: u32) {
     let k = (kind % 32) as usize;
-    let n = cases[k];
-    cases[k] = decisions::one_more(n);
-    if same {
-        return;
-    }
-    differing[k] = decisions::one_more(differing[k]);
+    part(
+        b"runsassemblieslistsnarrowsqrt32sqrt64quaternion_of_matrixproductinverseexplogretractretract_with_gravityresidualsolve",
+        STARTS[k],
+        STARTS[k + 1],
+    );
+}
+
+fn differs(kind: u32, case: u32) {
     name(kind);
     text(b": case ");
-    number(n);
+    number(case);
     text(b" differs\n");
+}
+
+// A case that differs is named by its number among those of its kind, from 0 on.
+pub fn counted(t: Tally, kind: u32, same: bool) -> Tally {
+    let k = (kind % 32) as usize;
+    let mut cases = t.cases;
+    let mut differing = t.differing;
+    let n = cases[k];
+    cases[k] = decisions::one_more(n);
+    if !same {
+        differing[k] = decisions::one_more(differing[k]);
+        differs(kind, n);
+    }
+    Tally { cases, differing }
 }
 
 // ---- bad input
@@ -82,7 +135,9 @@ fn line(kind: u32, cases: u32, differing: u32) {
     text(b"\n");
 }
 
-pub fn report(cases: &[u32; 32], differing: &[u32; 32]) {
+pub fn report(t: Tally) {
+    let cases = t.cases;
+    let differing = t.differing;
     let mut k = 0usize;
     while k < 32 {
         line(k as u32, cases[k], differing[k]);

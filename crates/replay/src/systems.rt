@@ -48,69 +48,21 @@ fn assemble(
     }
 }
 
-// The lists and the work, each as long as the record says. The work is what the system needs.
-fn same_with(
-    b: &[u8],
-    poses: &mut [f64],
-    ends: &mut [u32],
-    edges: &mut [f32],
-    fixed: &mut [u32],
-    work: &mut [f32],
-) -> bool {
+// The work as long as the record says, which is what the system needs.
+pub fn same_assembly(b: &[u8], poses: &[f64], ends: &[u32], edges: &[f32], fixed: &[u32]) -> bool {
     let l = inputs::lists_of(b);
     let end = l.end;
-    inputs::load(b, l, poses, ends, edges, fixed);
-    let number = assemble(b, poses, ends, edges, fixed, work);
+    let w = bytes::count_at(b, 60, 0, 4096);
+    let mut work = [0.0f32; 4096];
+    let w32 = &mut work[..w];
+    let number = assemble(b, poses, ends, edges, fixed, w32);
     if number != bytes::u32_at(b, end, 0) {
         return false;
     }
     if number != 0 {
         return true;
     }
-    bytes::same_f32s(work, b, end + 8)
-}
-
-fn same_listed(
-    b: &[u8],
-    poses: &mut [f64],
-    ends: &mut [u32],
-    edges: &mut [f32],
-    fixed: &mut [u32],
-    work: &mut [f32],
-) -> bool {
-    let p = bytes::count_at(b, 28, 0, poses.len());
-    let e = bytes::count_at(b, 28, 1, ends.len());
-    let f = bytes::count_at(b, 28, 2, edges.len());
-    let x = bytes::count_at(b, 28, 3, fixed.len());
-    same_with(
-        b,
-        &mut poses[..p],
-        &mut ends[..e],
-        &mut edges[..f],
-        &mut fixed[..x],
-        work,
-    )
-}
-
-fn same_in(b: &[u8], work: &mut [f32]) -> bool {
-    let mut poses = [0.0f64; 2048];
-    let mut ends = [0u32; 4096];
-    let mut edges = [0.0f32; 4096];
-    let mut fixed = [0u32; 4096];
-    let w = bytes::count_at(b, 60, 0, work.len());
-    same_listed(
-        b,
-        &mut poses,
-        &mut ends,
-        &mut edges,
-        &mut fixed,
-        &mut work[..w],
-    )
-}
-
-pub fn same_assembly(b: &[u8]) -> bool {
-    let mut work = [0.0f32; 4096];
-    same_in(b, &mut work)
+    bytes::same_f32s(w32, b, end + 8)
 }
 
 pub fn is_whole_assembly(b: &[u8]) -> bool {
@@ -146,21 +98,11 @@ fn status_of(s: Solved) -> u32 {
     }
 }
 
-// The work as long as the record says.
-fn same_solve_with(b: &[u8], work: &mut [f32]) -> bool {
+pub fn same_solve(b: &[u8]) -> bool {
     let n = bytes::count_at(b, 0, 0, UNKNOWNS);
     let w = need(b);
-    bytes::load_f32s(work, b, 8);
-    let status = status_of(solve::solve_damped(work, n, bytes::f32_at(b, 4, 0)));
-    (status == bytes::u32_at(b, 8 + w * 4, 0)) & bytes::same_f32s(work, b, 12 + w * 4)
-}
-
-fn same_solve_in(b: &[u8], work: &mut [f32]) -> bool {
-    let w = bytes::least(need(b), work.len());
-    same_solve_with(b, &mut work[..w])
-}
-
-pub fn same_solve(b: &[u8]) -> bool {
-    let mut work = [0.0f32; 4288];
-    same_solve_in(b, &mut work)
+    let mut work = bytes::f32s(b, 8);
+    let w32 = &mut work[..w];
+    let status = status_of(solve::solve_damped(w32, n, bytes::f32_at(b, 4, 0)));
+    (status == bytes::u32_at(b, 8 + w * 4, 0)) & bytes::same_f32s(w32, b, 12 + w * 4)
 }

@@ -4,22 +4,11 @@ use rotations::Mat3;
 use rotations::Pose;
 use rotations::Vec3;
 
-fn put64(xs: &mut [f64], i: usize, v: f64) {
-    if i < xs.len() {
-        xs[i] = v;
-    }
-}
-
-fn put32(xs: &mut [f32], i: usize, v: f32) {
-    if i < xs.len() {
-        xs[i] = v;
-    }
-}
-
-pub fn put_end(ends: &mut [u32], i: usize, v: u32) {
-    if i < ends.len() {
-        ends[i] = v;
-    }
+// 66 poses and 65 edges; a run takes as many as it wants.
+pub struct Graph {
+    pub poses: [f64; 792],
+    pub ends: [u32; 130],
+    pub edges: [f32; 520],
 }
 
 pub fn vec(x: f64, y: f64, z: f64) -> Vec3 {
@@ -31,7 +20,7 @@ pub fn step(cos: f64, sin: f64, shift: Vec3) -> Pose {
     Pose {
         rotation: Mat3 {
             x: vec(cos, sin, 0.0),
-            y: vec(-sin, cos, 0.0),
+            y: vec(0.0 - sin, cos, 0.0),
             z: vec(0.0, 0.0, 1.0),
         },
         translation: shift,
@@ -46,68 +35,82 @@ fn after(s: Pose, p: Pose) -> Pose {
     }
 }
 
-fn put_vec(poses: &mut [f64], at: usize, v: Vec3)
-    requires { ⌜ at < 4096 ⌝ }
-{
-    put64(poses, at, v.x);
-    put64(poses, at + 1, v.y);
-    put64(poses, at + 2, v.z);
+// Of the numbers of pose after pose the one at place i, which is in p.
+fn number_at(p: Pose, i: usize) -> f64 {
+    let twelve = graph::numbers_of(p);
+    twelve[i % 12]
 }
 
-fn put_pose(poses: &mut [f64], i: usize, p: Pose) {
-    if 256 <= i {
-        return;
-    }
-    let m = p.rotation;
-    put_vec(poses, i * 12, m.x);
-    put_vec(poses, i * 12 + 3, m.y);
-    put_vec(poses, i * 12 + 6, m.z);
-    put_vec(poses, i * 12 + 9, p.translation);
+// The pose that has place i + 1, where p has place i.
+fn next(s: Pose, p: Pose, i: usize) -> Pose {
+    if i % 12 == 11 { after(s, p) } else { p }
 }
 
-// As many poses as have room: the identity, then step by step.
-pub fn walk(poses: &mut [f64], s: Pose) {
-    let n = poses.len() / 12;
+// The identity, then step by step.
+fn walk(s: Pose) -> [f64; 792] {
+    let mut poses = [0.0f64; 792];
     let mut p = step(1.0, 0.0, vec(0.0, 0.0, 0.0));
     let mut i = 0usize;
-    while i < n {
-        put_pose(poses, i, p);
-        p = after(s, p);
+    while i < 792 {
+        poses[i] = number_at(p, i);
+        p = next(s, p, i);
         i += 1;
     }
+    poses
 }
 
-fn index(i: usize) -> u32 {
-    if i < 4294967296 { i as u32 } else { 0 }
-}
-
-// As many edges as have room, each from a pose to the next.
-pub fn link(ends: &mut [u32]) {
+// Each edge from a pose to the next.
+fn link() -> [u32; 130] {
+    let mut ends = [0u32; 130];
     let mut i = 0usize;
-    while i < ends.len() {
-        put_end(ends, i, index((i + 1) / 2));
+    while i < 130 {
+        ends[i] = ((i + 1) / 2) as u32;
         i += 1;
+    }
+    ends
+}
+
+// All edges alike.
+fn measure(edge: [f32; 8]) -> [f32; 520] {
+    let mut edges = [0.0f32; 520];
+    let mut i = 0usize;
+    while i < 520 {
+        edges[i] = edge[i % 8];
+        i += 1;
+    }
+    edges
+}
+
+// Each edge goes from a pose to the next; all measured alike.
+pub fn chain(s: Pose, edge: [f32; 8]) -> Graph {
+    Graph {
+        poses: walk(s),
+        ends: link(),
+        edges: measure(edge),
     }
 }
 
-// Edge k.
-pub fn put_edge(edges: &mut [f32], k: usize, edge: [f32; 8]) {
-    if 1024 <= k {
-        return;
-    }
+fn with_measured(edges: [f32; 520], k: usize, edge: [f32; 8]) -> [f32; 520]
+    requires { ⌜ k < 65 ⌝ }
+{
+    let mut r = edges;
     let mut j = 0usize;
     while j < 8 {
-        put32(edges, k * 8 + j, edge[j]);
+        r[k * 8 + j] = edge[j];
         j += 1;
     }
+    r
 }
 
-// As many edges as have room, all alike.
-pub fn measure(edges: &mut [f32], edge: [f32; 8]) {
-    let n = edges.len() / 8;
-    let mut k = 0usize;
-    while k < n {
-        put_edge(edges, k, edge);
-        k += 1;
-    }
+// Edge k is another.
+pub fn with_edge(g: Graph, k: usize, from: u32, to: u32, edge: [f32; 8]) -> Graph
+    requires { ⌜ k < 65 ⌝ }
+{
+    let mut ends = g.ends;
+    ends[k * 2] = from;
+    ends[k * 2 + 1] = to;
+    let poses = g.poses;
+    let edges = g.edges;
+    let edges = with_measured(edges, k, edge);
+    Graph { poses, ends, edges }
 }

@@ -1,20 +1,13 @@
 // A run's answer as one line for a person.
 use decisions::Why;
 use libc::STDOUT_FILENO;
+use line::Line;
 use numbers::Refusal;
 use sparse_pgo::Answer;
 use sparse_pgo::Joined;
 
-fn text(s: &[u8]) {
-    io::write_all(STDOUT_FILENO, s);
-}
-
-fn wide(n: u32) -> u64 {
-    n as u64
-}
-
-fn count(n: u32) {
-    io::print_decimal(STDOUT_FILENO, wide(n));
+fn with_count(l: Line, text: &[u8], n: u32) -> Line {
+    line::with_decimal(line::with_text(l, text), n as u64)
 }
 
 // x in millionths, to the nearest; the largest u64 where that is no u64.
@@ -28,89 +21,76 @@ fn millionths(x: f32) -> u64 {
     18446744073709551615
 }
 
-fn digit(n: u64) {
-    io::print_decimal(STDOUT_FILENO, n % 10);
+fn with_digit(l: Line, n: u64) -> Line {
+    line::with_decimal(l, n % 10)
 }
 
-fn six_digits(n: u64) {
-    digit(n / 100000);
-    digit(n / 10000);
-    digit(n / 1000);
-    digit(n / 100);
-    digit(n / 10);
-    digit(n);
+fn with_six_digits(l: Line, n: u64) -> Line {
+    let l = with_digit(with_digit(l, n / 100000), n / 10000);
+    let l = with_digit(with_digit(l, n / 1000), n / 100);
+    with_digit(with_digit(l, n / 10), n)
 }
 
 // A cost with six digits after the point.
-fn cost(x: f32) {
+fn with_cost(l: Line, x: f32) -> Line {
     let n = millionths(x);
     if 1000000000000 <= n {
-        text(b"large");
-        return;
+        return line::with_text(l, b"large");
     }
-    io::print_decimal(STDOUT_FILENO, n / 1000000);
-    text(b".");
-    six_digits(n);
+    let l = line::with_decimal(l, n / 1000000);
+    with_six_digits(line::with_text(l, b"."), n)
 }
 
-fn costs(j: Joined) {
-    text(b"first cost ");
-    cost(j.first_cost);
-    text(b", last cost ");
-    cost(j.last_cost);
+fn with_costs(l: Line, j: Joined) -> Line {
+    let l = with_cost(line::with_text(l, b"first cost "), j.first_cost);
+    with_cost(line::with_text(l, b", last cost "), j.last_cost)
 }
 
-fn events(j: Joined) {
-    text(b", iterations ");
-    count(j.iterations);
-    text(b" (A ");
-    count(j.accepted);
-    text(b", R ");
-    count(j.rejected);
-    text(b", F ");
-    count(j.failed);
-    text(b")");
+fn with_events(l: Line, j: Joined) -> Line {
+    let l = with_count(l, b", iterations ", j.iterations);
+    let l = with_count(l, b" (A ", j.accepted);
+    let l = with_count(l, b", R ", j.rejected);
+    let l = with_count(l, b", F ", j.failed);
+    line::with_text(l, b")")
 }
 
-fn convergence(converged: bool) {
+fn with_convergence(l: Line, converged: bool) -> Line {
     if converged {
-        text(b", converged yes");
-    } else {
-        text(b", converged no");
+        return line::with_text(l, b", converged yes");
     }
+    line::with_text(l, b", converged no")
 }
 
-fn reason(w: Why) {
+fn with_reason(l: Line, w: Why) -> Line {
+    let l = line::with_text(l, b", stopped by ");
     match w {
-        Why::Budget => text(b", stopped by Budget"),
-        Why::Gradient => text(b", stopped by Gradient"),
-        Why::Step => text(b", stopped by Step"),
-        Why::Cost => text(b", stopped by Cost"),
-        Why::Damping => text(b", stopped by Damping"),
+        Why::Budget => line::with_text(l, b"Budget"),
+        Why::Gradient => line::with_text(l, b"Gradient"),
+        Why::Step => line::with_text(l, b"Step"),
+        Why::Cost => line::with_text(l, b"Cost"),
+        Why::Damping => line::with_text(l, b"Damping"),
     }
 }
 
-fn joined(j: Joined) {
-    costs(j);
-    events(j);
-    convergence(j.converged);
+fn with_joined(l: Line, j: Joined) -> Line {
     let why = j.why;
-    reason(why);
+    let l = with_events(with_costs(l, j), j);
+    with_reason(with_convergence(l, j.converged), why)
 }
 
-fn refused(r: Refusal) {
-    text(b"refused ");
-    count(r.number);
-    text(b" at ");
-    io::print_decimal(STDOUT_FILENO, r.place as u64);
+fn with_refused(l: Line, r: Refusal) -> Line {
+    let l = with_count(l, b"refused ", r.number);
+    line::with_decimal(line::with_text(l, b" at "), r.place as u64)
 }
 
-pub fn line(sample: &[u8], a: Answer) {
-    text(sample);
-    text(b": ");
+fn with_answer(l: Line, a: Answer) -> Line {
     match a {
-        Answer::Joined(j) => joined(j),
-        Answer::Refused(r) => refused(r),
+        Answer::Joined(j) => with_joined(l, j),
+        Answer::Refused(r) => with_refused(l, r),
     }
-    text(b"\n");
+}
+
+pub fn answer(sample: &[u8], a: Answer) {
+    let l = line::with_text(line::with_text(line::empty(), sample), b": ");
+    line::say(STDOUT_FILENO, line::with_text(with_answer(l, a), b"\n"));
 }

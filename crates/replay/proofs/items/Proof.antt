@@ -6,10 +6,10 @@ use Rattle.replay.proofs.items.Statement.{statement}
 use Rattle.replay.proofs.items.Tie as tie
 
 abbrev Inv-loop : tie.InvT-loop
-Inv-loop kind b cases₀ differing₀ n at₀ k₀ cases differing at k = at ≤ length b
+Inv-loop kind b n tally₀ at₀ k₀ tally at k = at ≤ length b
 
 abbrev μ-loop : tie.MeasureT-loop
-μ-loop kind b cases₀ differing₀ n at₀ k₀ cases differing at k = n - k
+μ-loop kind b n tally₀ at₀ k₀ tally at k = n - k
 
 u32-at-requires : tie.Need-u32-at-requires Inv-loop μ-loop
 u32-at-requires c κs = search needs
@@ -50,8 +50,8 @@ part-same-item-end c = search needs
 same-item-requires : tie.Need-same-item-requires Inv-loop μ-loop
 same-item-requires c κs = search needs
 
-count-requires : tie.Need-count-requires Inv-loop μ-loop
-count-requires c κs = search needs
+counted-requires : tie.Need-counted-requires Inv-loop μ-loop
+counted-requires c κs = search needs
 
 add-at : tie.Need-add-at Inv-loop μ-loop
 add-at c = search needs
@@ -87,7 +87,7 @@ items-spec =
     part-same-item-start
     part-same-item-end
     same-item-requires
-    count-requires
+    counted-requires
     add-at
     add-k
     loop-less

@@ -1,19 +1,19 @@
--- The work that is lent on keeps its length.
-use mathlib.Core.Path.{_≡_}
 use Prim.Native.Nat.{_-_}
-use lib.ListN.{length}
 use borrow.Author.Needs.{needs}
 use Rattle.replay.proofs.records.Statement.{statement}
 use Rattle.replay.proofs.records.Tie as tie
 
 abbrev Inv-loop : tie.InvT-loop
-Inv-loop file cases₀ differing₀ w32₀ w64₀ n at₀ r₀ cases differing w32 w64 at r = (length w32 ≡ length w32₀) × (length w64 ≡ length w64₀)
+Inv-loop file n tally₀ at₀ r₀ tally at r = Unit {0}
 
 abbrev μ-loop : tie.MeasureT-loop
-μ-loop file cases₀ differing₀ w32₀ w64₀ n at₀ r₀ cases differing w32 w64 at r = n - r
+μ-loop file n tally₀ at₀ r₀ tally at r = n - r
 
 u32-at-requires : tie.Need-u32-at-requires Inv-loop μ-loop
 u32-at-requires c κs = search needs
+
+nothing-requires : tie.Need-nothing-requires Inv-loop μ-loop
+nothing-requires c κs = search needs
 
 loop-holds : tie.Need-loop-holds Inv-loop μ-loop
 loop-holds c = search needs
@@ -23,12 +23,6 @@ record-at-requires c κs = search needs
 
 cut-short-requires : tie.Need-cut-short-requires Inv-loop μ-loop
 cut-short-requires c κs = search needs
-
-same-length : tie.Need-same-length Inv-loop μ-loop
-same-length c = search needs
-
-same-length-2 : tie.Need-same-length-2 Inv-loop μ-loop
-same-length-2 c = search needs
 
 returns : tie.Need-returns Inv-loop μ-loop
 returns c = tt
@@ -48,12 +42,6 @@ replayed-requires c κs = search needs
 unknown-requires : tie.Need-unknown-requires Inv-loop μ-loop
 unknown-requires c κs = search needs
 
-same-length-3 : tie.Need-same-length-3 Inv-loop μ-loop
-same-length-3 c = search needs
-
-same-length-4 : tie.Need-same-length-4 Inv-loop μ-loop
-same-length-4 c = search needs
-
 returns-2 : tie.Need-returns-2 Inv-loop μ-loop
 returns-2 c = tt
 
@@ -69,20 +57,8 @@ loop-again c = search needs
 left-over-requires : tie.Need-left-over-requires Inv-loop μ-loop
 left-over-requires c κs = search needs
 
-same-length-5 : tie.Need-same-length-5 Inv-loop μ-loop
-same-length-5 c = search needs
-
-same-length-6 : tie.Need-same-length-6 Inv-loop μ-loop
-same-length-6 c = search needs
-
 returns-3 : tie.Need-returns-3 Inv-loop μ-loop
 returns-3 c = tt
-
-same-length-7 : tie.Need-same-length-7 Inv-loop μ-loop
-same-length-7 c = search needs
-
-same-length-8 : tie.Need-same-length-8 Inv-loop μ-loop
-same-length-8 c = search needs
 
 returns-4 : tie.Need-returns-4 Inv-loop μ-loop
 returns-4 c = tt
@@ -94,27 +70,20 @@ records-spec =
     Inv-loop
     μ-loop
     u32-at-requires
+    nothing-requires
     loop-holds
     record-at-requires
     cut-short-requires
-    same-length
-    same-length-2
     returns
     sub-replayed
     part-replayed-start
     part-replayed-end
     replayed-requires
     unknown-requires
-    same-length-3
-    same-length-4
     returns-2
     add-r
     loop-less
     loop-again
     left-over-requires
-    same-length-5
-    same-length-6
     returns-3
-    same-length-7
-    same-length-8
     returns-4)

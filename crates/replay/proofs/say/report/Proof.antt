@@ -18,14 +18,14 @@ cast-line c = search needs
 mul-line : tie.Need-mul-line Inv-loop μ-loop
 mul-line c = search needs
 
-element-copy-out-line : tie.Need-element-copy-out-line Inv-loop μ-loop
-element-copy-out-line c = search needs
+array-read-line : tie.Need-array-read-line Inv-loop μ-loop
+array-read-line c = search needs
 
 mul-line-2 : tie.Need-mul-line-2 Inv-loop μ-loop
 mul-line-2 c = search needs
 
-element-copy-out-line-2 : tie.Need-element-copy-out-line-2 Inv-loop μ-loop
-element-copy-out-line-2 c = search needs
+array-read-line-2 : tie.Need-array-read-line-2 Inv-loop μ-loop
+array-read-line-2 c = search needs
 
 line-requires : tie.Need-line-requires Inv-loop μ-loop
 line-requires c κs = search needs
@@ -51,9 +51,9 @@ report-spec =
     loop-holds
     cast-line
     mul-line
-    element-copy-out-line
+    array-read-line
     mul-line-2
-    element-copy-out-line-2
+    array-read-line-2
     line-requires
     add-k
     loop-less

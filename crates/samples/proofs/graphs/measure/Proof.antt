@@ -1,3 +1,4 @@
+-- The array keeps its places.
 use mathlib.Core.Path.{_≡_}
 use Prim.Native.Nat.{_-_}
 use lib.ListN.{length}
@@ -6,28 +7,34 @@ use Rattle.samples.proofs.graphs.measure.Statement.{statement}
 use Rattle.samples.proofs.graphs.measure.Tie as tie
 
 abbrev Inv-loop : tie.InvT-loop
-Inv-loop edges₀ edge n k₀ edges k = length edges ≡ length edges₀
+Inv-loop edge edges₀ i₀ edges i = length edges ≡ 520
 
 abbrev μ-loop : tie.MeasureT-loop
-μ-loop edges₀ edge n k₀ edges k = n - k
+μ-loop edge edges₀ i₀ edges i = 520 - i
 
 loop-holds : tie.Need-loop-holds Inv-loop μ-loop
 loop-holds c = search needs
 
-put-edge-requires : tie.Need-put-edge-requires Inv-loop μ-loop
-put-edge-requires c κs = search needs
+mul-edges : tie.Need-mul-edges Inv-loop μ-loop
+mul-edges c = search needs
 
-add-k : tie.Need-add-k Inv-loop μ-loop
-add-k c = search needs
+array-read-edges : tie.Need-array-read-edges Inv-loop μ-loop
+array-read-edges c = search needs
+
+mul-edges-2 : tie.Need-mul-edges-2 Inv-loop μ-loop
+mul-edges-2 c = search needs
+
+array-write-edges : tie.Need-array-write-edges Inv-loop μ-loop
+array-write-edges c = search needs
+
+add-i : tie.Need-add-i Inv-loop μ-loop
+add-i c = search needs
 
 loop-less : tie.Need-loop-less Inv-loop μ-loop
 loop-less c = search needs
 
 loop-again : tie.Need-loop-again Inv-loop μ-loop
 loop-again c = search needs
-
-same-length : tie.Need-same-length Inv-loop μ-loop
-same-length c = search needs
 
 returns : tie.Need-returns Inv-loop μ-loop
 returns c = tt
@@ -39,9 +46,11 @@ measure-spec =
     Inv-loop
     μ-loop
     loop-holds
-    put-edge-requires
-    add-k
+    mul-edges
+    array-read-edges
+    mul-edges-2
+    array-write-edges
+    add-i
     loop-less
     loop-again
-    same-length
     returns)

@@ -1,15 +1,16 @@
+-- The array keeps its places.
 use mathlib.Core.Path.{_≡_}
-use Prim.Native.Nat.{_≤_, _-_, _/_}
+use Prim.Native.Nat.{_-_}
 use lib.ListN.{length}
 use borrow.Author.Needs.{needs}
 use Rattle.samples.proofs.graphs.walk.Statement.{statement}
 use Rattle.samples.proofs.graphs.walk.Tie as tie
 
 abbrev Inv-loop : tie.InvT-loop
-Inv-loop poses₀ s n p₀ i₀ poses p i = length poses ≡ length poses₀
+Inv-loop s poses₀ p₀ i₀ poses p i = length poses ≡ 792
 
 abbrev μ-loop : tie.MeasureT-loop
-μ-loop poses₀ s n p₀ i₀ poses p i = n - i
+μ-loop s poses₀ p₀ i₀ poses p i = 792 - i
 
 vec-requires : tie.Need-vec-requires Inv-loop μ-loop
 vec-requires c κs = search needs
@@ -20,11 +21,17 @@ step-requires c κs = search needs
 loop-holds : tie.Need-loop-holds Inv-loop μ-loop
 loop-holds c = search needs
 
-put-pose-requires : tie.Need-put-pose-requires Inv-loop μ-loop
-put-pose-requires c κs = search needs
+number-at-requires : tie.Need-number-at-requires Inv-loop μ-loop
+number-at-requires c κs = search needs
 
-after-requires : tie.Need-after-requires Inv-loop μ-loop
-after-requires c κs = search needs
+mul-poses : tie.Need-mul-poses Inv-loop μ-loop
+mul-poses c = search needs
+
+array-write-poses : tie.Need-array-write-poses Inv-loop μ-loop
+array-write-poses c = search needs
+
+next-requires : tie.Need-next-requires Inv-loop μ-loop
+next-requires c κs = search needs
 
 add-i : tie.Need-add-i Inv-loop μ-loop
 add-i c = search needs
@@ -34,9 +41,6 @@ loop-less c = search needs
 
 loop-again : tie.Need-loop-again Inv-loop μ-loop
 loop-again c = search needs
-
-same-length : tie.Need-same-length Inv-loop μ-loop
-same-length c = search needs
 
 returns : tie.Need-returns Inv-loop μ-loop
 returns c = tt
@@ -50,10 +54,11 @@ walk-spec =
     vec-requires
     step-requires
     loop-holds
-    put-pose-requires
-    after-requires
+    number-at-requires
+    mul-poses
+    array-write-poses
+    next-requires
     add-i
     loop-less
     loop-again
-    same-length
     returns)

@@ -1,28 +1,28 @@
--- The loop runs to the end of what is lent, which keeps its length.
+-- The array keeps its places.
 use mathlib.Core.Path.{_≡_}
 use Prim.Native.Nat.{_-_}
 use lib.ListN.{length}
 use borrow.Author.Needs.{needs}
-use Rattle.replay.proofs.bytes.load_f64s.Statement.{statement}
-use Rattle.replay.proofs.bytes.load_f64s.Tie as tie
+use Rattle.replay.proofs.bytes.f32s.Statement.{statement}
+use Rattle.replay.proofs.bytes.f32s.Tie as tie
 
 abbrev Inv-loop : tie.InvT-loop
-Inv-loop xs₀ b at i₀ xs i = length xs ≡ length xs₀
+Inv-loop b at xs₀ i₀ xs i = length xs ≡ 4288
 
 abbrev μ-loop : tie.MeasureT-loop
-μ-loop xs₀ b at i₀ xs i = length xs₀ - i
+μ-loop b at xs₀ i₀ xs i = 4288 - i
 
 loop-holds : tie.Need-loop-holds Inv-loop μ-loop
 loop-holds c = search needs
 
-f64-at-requires : tie.Need-f64-at-requires Inv-loop μ-loop
-f64-at-requires c κs = search needs
+f32-at-requires : tie.Need-f32-at-requires Inv-loop μ-loop
+f32-at-requires c κs = search needs
 
 mul-xs : tie.Need-mul-xs Inv-loop μ-loop
 mul-xs c = search needs
 
-slice-write-xs : tie.Need-slice-write-xs Inv-loop μ-loop
-slice-write-xs c = search needs
+array-write-xs : tie.Need-array-write-xs Inv-loop μ-loop
+array-write-xs c = search needs
 
 add-i : tie.Need-add-i Inv-loop μ-loop
 add-i c = search needs
@@ -33,24 +33,20 @@ loop-less c = search needs
 loop-again : tie.Need-loop-again Inv-loop μ-loop
 loop-again c = search needs
 
-same-length : tie.Need-same-length Inv-loop μ-loop
-same-length c = search needs
-
 returns : tie.Need-returns Inv-loop μ-loop
-returns c = tt
+returns c = search needs
 
-pub load-f64s-spec : {M : Type 1} → statement M
-load-f64s-spec =
+pub f32s-spec : {M : Type 1} → statement M
+f32s-spec =
     tie.close
     (tie.spec
     Inv-loop
     μ-loop
     loop-holds
-    f64-at-requires
+    f32-at-requires
     mul-xs
-    slice-write-xs
+    array-write-xs
     add-i
     loop-less
     loop-again
-    same-length
     returns)
