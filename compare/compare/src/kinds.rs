@@ -13,6 +13,7 @@ use restated::wild::wild;
 
 use crate::assembly::check_assembly;
 use crate::decide;
+use crate::jobs::{check_cuts, check_damage, check_headers, check_job};
 use crate::layers::check_layer;
 use crate::lengths::check_lengths;
 use crate::runs::{check_forced, check_run};
@@ -55,6 +56,7 @@ pub fn kinds() -> Vec<Kind> {
         |r, _, t| graph(r, t, large, true),
     ));
     list.extend(island_kinds());
+    list.extend(job_kinds());
     list
 }
 
@@ -86,6 +88,16 @@ fn island_kinds() -> Vec<Kind> {
             |n| n,
             |r, _, t| graph(r, t, islands, true),
         ),
+    ]
+}
+
+/// All cuts of a small job are one case, and all its changed headers too.
+fn job_kinds() -> Vec<Kind> {
+    vec![
+        kind("jobs", |n| n, |r, _, t| Some(check_job(r, t))),
+        kind("job-cuts", |n| n, |r, _, t| Some(check_cuts(r, t))),
+        kind("job-headers", |n| n, |r, _, t| Some(check_headers(r, t))),
+        kind("job-damage", |n| 20 * n, |r, _, t| Some(check_damage(r, t))),
     ]
 }
 

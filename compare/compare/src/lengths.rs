@@ -1,6 +1,7 @@
 //! Slices of another length than named: 4294967295 comes back and nothing is changed.
 
 use port::UNFIT;
+use restated::jobs::{write, Job};
 use restated::samples::two_poses;
 
 use crate::runs::inputs;
@@ -11,6 +12,8 @@ struct Outputs {
     f32s: Vec<f32>,
     f64s: Vec<f64>,
     u32s: Vec<u32>,
+    u64s: Vec<u64>,
+    bytes: Vec<u8>,
 }
 
 impl Outputs {
@@ -19,6 +22,17 @@ impl Outputs {
             f32s: vec![-77.125; f32s],
             f64s: vec![-77.125; f64s],
             u32s: vec![77; u32s],
+            u64s: Vec::new(),
+            bytes: Vec::new(),
+        }
+    }
+
+    /// What a reader or a writer of jobs is lent.
+    fn of_jobs(u32s: usize, u64s: usize, bytes: usize) -> Self {
+        Self {
+            u64s: vec![77; u64s],
+            bytes: vec![77; bytes],
+            ..Self::new(0, 0, u32s)
         }
     }
 
@@ -26,6 +40,8 @@ impl Outputs {
         self.f32s.iter().all(|x| *x == -77.125)
             && self.f64s.iter().all(|x| *x == -77.125)
             && self.u32s.iter().all(|x| *x == 77)
+            && self.u64s.iter().all(|x| *x == 77)
+            && self.bytes.iter().all(|x| *x == 77)
     }
 }
 
@@ -65,6 +81,8 @@ pub fn check_lengths() -> Checked {
     calls.extend(runs());
     calls.extend(decisions());
     calls.extend(assemblies());
+    calls.extend(jobs_read());
+    calls.extend(jobs_written());
     let bad = |c: &Call| c.status != UNFIT || !c.outputs.unchanged();
     let say = |c: Call| {
         format!(
@@ -242,4 +260,57 @@ fn assemblies() -> Vec<Call> {
         .into_iter()
         .map(|(dof, gravity)| assembled(dof, gravity))
         .collect()
+}
+
+/// The job of the two-pose sample, and its bytes.
+fn sample_job() -> (Job, Vec<u8>) {
+    let job = Job::of(&two_poses(1.0, 1.0));
+    let bytes = write(&job);
+    (job, bytes)
+}
+
+/// Good jobs and cut ones, read with an answer that is not 8 long.
+fn jobs_read() -> Vec<Call> {
+    let (_, bytes) = sample_job();
+    let mut calls = Vec::new();
+    for [answer] in off([8]) {
+        for length in [0, 100, bytes.len()] {
+            let outputs = Outputs::of_jobs(2 + 8 + 1 + answer, 24, 0);
+            calls.push(call("read_job", outputs, |x| {
+                let (ends, rest) = x.u32s.split_at_mut(2);
+                let (edges, rest) = rest.split_at_mut(8);
+                let (fixed, answer) = rest.split_at_mut(1);
+                let room = port::JobRoom {
+                    poses: &mut x.u64s,
+                    ends,
+                    edges,
+                    fixed,
+                };
+                port::read_job(&bytes[..length], room, answer)
+            }));
+        }
+    }
+    calls
+}
+
+/// Outputs that are long enough and not, written with an answer that is not 2 long.
+fn jobs_written() -> Vec<Call> {
+    let (job, bytes) = sample_job();
+    let mut calls = Vec::new();
+    for [answer] in off([2]) {
+        for (poses, out) in [(24, bytes.len()), (24, 9), (23, bytes.len())] {
+            let outputs = Outputs::of_jobs(answer, 0, out);
+            calls.push(call("write_job", outputs, |x| {
+                let job = port::Job {
+                    settings: job.settings,
+                    poses: &job.poses[..poses],
+                    ends: &job.ends,
+                    edges: &job.edges,
+                    fixed: &job.fixed,
+                };
+                port::write_job(job, &mut x.bytes, &mut x.u32s)
+            }));
+        }
+    }
+    calls
 }

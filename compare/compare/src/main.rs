@@ -4,6 +4,7 @@
 mod assembly;
 mod buffers;
 mod decide;
+mod jobs;
 mod kinds;
 mod layers;
 mod lengths;
@@ -27,7 +28,8 @@ struct Asked {
 /// How many differing cases of one kind are printed in full; of the others only the line.
 const IN_FULL: usize = 10;
 
-/// From this N on a comparison of all kinds must have met every row and every stop.
+/// From this N on a comparison of all kinds must have met every row, every stop and every answer
+/// about a job.
 const MEETS_ALL: usize = 400;
 
 fn number<T: std::str::FromStr>(name: &str, given: Option<&String>) -> Result<T, String> {

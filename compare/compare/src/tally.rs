@@ -1,5 +1,5 @@
-//! What was met over all cases: refusals, stops, events, and the largest difference of pose
-//! numbers; and what should have been met and was not.
+//! What was met over all cases: refusals, stops, events, answers about jobs, and the largest
+//! difference of pose numbers; and what should have been met and was not.
 
 use std::collections::BTreeMap;
 
@@ -31,6 +31,8 @@ pub struct Tally {
     answers: Answers,
     hooked: Answers,
     assemblies: Answers,
+    jobs_read: Answers,
+    jobs_written: Answers,
     stops: [usize; 6],
     events: [usize; 7],
     /// Refusals by 21 and by 22 after a trial that was accepted or rejected.
@@ -52,6 +54,15 @@ impl Answers {
         self.0.get(&number).copied().unwrap_or(0)
     }
 
+    /// Success and those of the rows that never came, of jobs.
+    fn missing<'a>(&'a self, done: &'a str, rows: &'a [u32]) -> impl Iterator<Item = String> + 'a {
+        let never = [0].iter().chain(rows).filter(|row| self.of(**row) == 0);
+        never.map(move |row| match row {
+            0 => format!("a job {done}"),
+            _ => format!("row {row} of a job not {done}"),
+        })
+    }
+
     fn line(&self, rows: &[u32]) -> String {
         let counts: Vec<_> = rows
             .iter()
@@ -71,6 +82,10 @@ fn assembly_rows() -> Vec<u32> {
     let asked = ORDER.iter().copied().take_while(|row| *row != 15);
     asked.chain([21]).collect()
 }
+
+/// What the reader and the writer of job files may give.
+const READER_ROWS: [u32; 3] = [30, 31, 32];
+const WRITER_ROWS: [u32; 2] = [2, 36];
 
 const STOPS: [&str; 6] = ["-", "Budget", "Gradient", "Step", "Cost", "Damping"];
 const EVENTS: [&str; 7] = [
@@ -119,8 +134,16 @@ impl Tally {
         self.assemblies.add(number);
     }
 
+    pub fn count_job_read(&mut self, number: u32) {
+        self.jobs_read.add(number);
+    }
+
+    pub fn count_job_written(&mut self, number: u32) {
+        self.jobs_written.add(number);
+    }
+
     /// What a comparison should meet and this one did not: rows, stops, 21 late in a run, 26 in
-    /// assembly.
+    /// assembly, and all that is said of jobs.
     pub fn missing(&self) -> Vec<String> {
         let rows = run_rows().into_iter();
         let rows = rows.filter(|row| self.answers.of(*row) == 0);
@@ -134,6 +157,8 @@ impl Tally {
         let rows = rows.map(|row| format!("row {row}"));
         rows.chain(stops.map(|(name, _)| format!("stop {name}")))
             .chain(others.map(|(name, _)| format!("row {name}")))
+            .chain(self.jobs_read.missing("read", &READER_ROWS))
+            .chain(self.jobs_written.missing("written", &WRITER_ROWS))
             .collect()
     }
 
@@ -152,6 +177,8 @@ impl Tally {
         println!("refused after a trial by 21: {late21}, by 22: {late22}");
         println!("hooked runs finished {}", self.hooked.line(&IN_THE_RUN));
         println!("assemblies done {}", self.assemblies.line(&assembly_rows()));
+        println!("jobs read {}", self.jobs_read.line(&READER_ROWS));
+        println!("jobs written {}", self.jobs_written.line(&WRITER_ROWS));
         println!("stops: {}", named(&STOPS[1..], &self.stops[1..]));
         println!("events: {}", named(&EVENTS, &self.events));
         let [accepted, rejected, failed] = self.sums;

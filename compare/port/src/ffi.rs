@@ -1,4 +1,4 @@
-//! The exported functions as C sees them, in the order of DESIGN.md, section 5.
+//! The exported functions as C sees them, in the order of DESIGN.md, section 5; then those of job files.
 
 extern "C" {
     pub fn pgo_optimize(
@@ -144,5 +144,39 @@ extern "C" {
         fixed_len: usize,
         work: *mut f32,
         work_len: usize,
+    ) -> u32;
+
+    pub fn pgo_read_job(
+        bytes: *const u8,
+        bytes_len: usize,
+        poses: *mut u64,
+        poses_len: usize,
+        ends: *mut u32,
+        ends_len: usize,
+        edges: *mut u32,
+        edges_len: usize,
+        fixed: *mut u32,
+        fixed_len: usize,
+        answer: *mut u32,
+        answer_len: usize,
+    ) -> u32;
+
+    pub fn pgo_write_job(
+        limit: u32,
+        cost_tolerance: u32,
+        gradient_tolerance: u32,
+        damping: u32,
+        poses: *const u64,
+        poses_len: usize,
+        ends: *const u32,
+        ends_len: usize,
+        edges: *const u32,
+        edges_len: usize,
+        fixed: *const u32,
+        fixed_len: usize,
+        out: *mut u8,
+        out_len: usize,
+        answer: *mut u32,
+        answer_len: usize,
     ) -> u32;
 }

@@ -220,3 +220,67 @@ pub fn assemble(a: Assembly, work: &mut [f32]) -> u32 {
         )
     }
 }
+
+/// What the reader of job files fills; floats are their bits.
+pub struct JobRoom<'a> {
+    pub poses: &'a mut [u64],
+    pub ends: &'a mut [u32],
+    pub edges: &'a mut [u32],
+    pub fixed: &'a mut [u32],
+}
+
+pub fn read_job(bytes: &[u8], room: JobRoom, answer: &mut [u32]) -> u32 {
+    // SAFETY: every pointer comes with its slice's own length.
+    unsafe {
+        ffi::pgo_read_job(
+            bytes.as_ptr(),
+            bytes.len(),
+            room.poses.as_mut_ptr(),
+            room.poses.len(),
+            room.ends.as_mut_ptr(),
+            room.ends.len(),
+            room.edges.as_mut_ptr(),
+            room.edges.len(),
+            room.fixed.as_mut_ptr(),
+            room.fixed.len(),
+            answer.as_mut_ptr(),
+            answer.len(),
+        )
+    }
+}
+
+/// What the writer of job files reads: limit, cost tolerance, gradient tolerance and damping, then
+/// the graph; floats are their bits.
+#[derive(Copy, Clone)]
+pub struct Job<'a> {
+    pub settings: [u32; 4],
+    pub poses: &'a [u64],
+    pub ends: &'a [u32],
+    pub edges: &'a [u32],
+    pub fixed: &'a [u32],
+}
+
+pub fn write_job(job: Job, out: &mut [u8], answer: &mut [u32]) -> u32 {
+    let [limit, cost_tolerance, gradient_tolerance, damping] = job.settings;
+    // SAFETY: every pointer comes with its slice's own length.
+    unsafe {
+        ffi::pgo_write_job(
+            limit,
+            cost_tolerance,
+            gradient_tolerance,
+            damping,
+            job.poses.as_ptr(),
+            job.poses.len(),
+            job.ends.as_ptr(),
+            job.ends.len(),
+            job.edges.as_ptr(),
+            job.edges.len(),
+            job.fixed.as_ptr(),
+            job.fixed.len(),
+            out.as_mut_ptr(),
+            out.len(),
+            answer.as_mut_ptr(),
+            answer.len(),
+        )
+    }
+}

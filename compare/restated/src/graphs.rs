@@ -19,13 +19,14 @@ pub const CALM: Noise = Noise {
     measured: 0.01,
 };
 
-fn strayed(random: &mut Random, place: Place, turn: f64, shift: f64) -> Place {
+/// The place, moved and turned by up to so much.
+pub fn strayed(random: &mut Random, place: Place, turn: f64, shift: f64) -> Place {
     let by = Place::turned(random.span3(turn), random.span3(shift));
     place.after(by)
 }
 
 /// An empty case with ordinary settings.
-pub(crate) fn blank(gravity: Option<[f64; 3]>) -> Case {
+pub fn blank(gravity: Option<[f64; 3]>) -> Case {
     Case {
         gravity,
         poses: Vec::new(),
@@ -105,7 +106,7 @@ pub(crate) fn case_of(
     case
 }
 
-pub(crate) fn push_edge(case: &mut Case, a: usize, b: usize, measured: [f32; 7], weight: f32) {
+pub fn push_edge(case: &mut Case, a: usize, b: usize, measured: [f32; 7], weight: f32) {
     case.ends.extend([a as u32, b as u32]);
     case.edges.extend(measured);
     case.edges.push(weight);

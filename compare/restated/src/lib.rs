@@ -1,6 +1,6 @@
 //! What the port adds to the Rust, stated once more in Rust from documents 01 and 02: the refusal
-//! table, the decisions, the counts and the stop reasons; and the random inputs that the programs
-//! of this workspace share.
+//! table, the decisions, the counts and the stop reasons, the job file; and the random inputs that
+//! the programs of this workspace share.
 
 pub mod assembly;
 pub mod case;
@@ -9,6 +9,9 @@ pub mod expect;
 pub mod faults;
 pub mod forced;
 pub mod graphs;
+pub mod job_inputs;
+pub mod job_reader;
+pub mod jobs;
 pub mod layer_inputs;
 pub mod layers;
 pub mod limits;

@@ -49,7 +49,7 @@ abbrev pub flag : Bool → ℕ
 flag true = 1
 flag false = 0
 
--- a place as a u32
+-- a place, or a count, as a u32
 unfoldable pub place32 : ℕ → ℕ
 place32 n = if-then (ltb n 4294967296) n 4294967295
 

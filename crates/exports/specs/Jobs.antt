@@ -6,6 +6,8 @@ use lib.Dec.{eqb}
 use lib.ListN.{length}
 use Rattle.numbers.specs.Notation.{if-then}
 use Rattle.job.specs.Format.{Job, Space, readInto, writtenInto}
+use Rattle.job.specs.declared.SettingBits.{SettingBits}
+use Rattle.job.specs.declared.Tally.{Tally}
 use Rattle.job.specs.declared.Read.{Read}
 use Rattle.job.specs.declared.Read.the-variants as read
 use Rattle.job.specs.declared.Written.{Written}

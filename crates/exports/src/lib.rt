@@ -18,7 +18,7 @@ ghost use Rattle.decisions.specs.Machine.{stateOf};
 ghost use Rattle.sparse_pgo.specs.Parts.{answerOf};
 ghost use Rattle.sparse_pgo.specs.Optimize.{optimized};
 ghost use Rattle.job.specs.Format.{space, jobOf};
-ghost use Rattle.exports.specs.Jobs.{readOut, writeOut};
+ghost use Rattle.exports.specs.Jobs.{readEight, readOut, writeOut};
 ghost use Rattle.exports.specs.Layers.{at, matrixFrom, transformFrom, quatNumbers, transformNumbers, three};
 ghost use Rattle.exports.specs.Layers.{quaternionOut, productOut, inverseOut, logOut, expOut, retractOut, retractGravityOut, residualOut, solveOut};
 ghost use Rattle.exports.specs.Exported.{stopNumber, flag, place32, refusedEight, told, settings, lists, roomOf, exported};
@@ -829,7 +829,7 @@ pub extern "C" fn pgo_assemble(
 
 fn put_read(answer: &mut [u32], t: SettingBits, had: Tally)
     requires { ⌜ length (now answer) ≡ 8 ⌝ }
-    ensures { λ _. ⌜ now (answer .exit) ≡ t .limit ∷ t .«cost_tolerance» ∷ t .«gradient_tolerance» ∷ t .damping ∷ place32 (had .poses) ∷ place32 (had .edges) ∷ place32 (had .fixed) ∷ 0 ∷ [] ⌝ }
+    ensures { λ _. ⌜ now (answer .exit) ≡ readEight t had ⌝ }
 {
     give_counts(
         answer,

@@ -1,6 +1,4 @@
 // What programs read: standard input up to as many bytes as can matter, and a read that failed told from the end of the input.
-ghost use Prim.Native.Nat.{_≤_};
-ghost use lib.ListN.{length};
 ghost use Rattle.io.specs.Counts.{Counts};
 use libc::STDIN_FILENO;
 

@@ -15,7 +15,7 @@ use Rattle.numbers.specs.declared.Verdict.the-variants as verdict
 use Rattle.job.specs.declared.Tally.{Tally}
 use Rattle.job.specs.declared.Cursor.{Cursor}
 use Rattle.job.specs.declared.Step.the-variants as step
-use Rattle.job.specs.Bytes.{valuesAt, bytesOf, joined, bytesFrom}
+use Rattle.job.specs.Bytes.{valuesAt, joined, bytesFrom}
 use Rattle.job.specs.Format.{Job, nothing, tallyOf, settingsRecord, poseRecord, edgeRecord, fixedRecord, endRecord, encoded}
 use Rattle.job.specs.Format.{kindAt, isRecord, mayFollow, isFull, faultOf, start, counted, stepFrom, stepOf, holding, taken, reading, CursorIn}
 use Rattle.job.proofs.Pasting.{length-joined}

@@ -10,6 +10,7 @@ pub mod Firsts
 pub mod Bytewise
 pub mod Along
 pub mod Trips
+pub mod Again
 pub mod Standing
 pub mod Back
 pub mod Prefix

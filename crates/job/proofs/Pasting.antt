@@ -1,11 +1,11 @@
 -- The laws of lists put into another: nothing put, one number stored, one list behind the other, and lengths. Assumes nothing.
 use Prim.Native.Nat.{ℕ, zero, suc, _+_, _*_, _-_, _≤_, _<_}
 use native.Mathlib.Omega.{arith}
-use native.Mathlib.Nat.{add-zero, add-assoc}
+use native.Mathlib.Nat.{add-zero}
 use mathlib.Core.Path.{_≡_, refl, sym, ap, _∙_}
 use mathlib.Core.List.{List, [], _∷_, _++_, append-assoc, append-nil}
-use lib.ListN.{length, getD, take, drop, set, length-append, length-take, length-drop, length-set}
-use lib.Seq.{length-take-le, take-at, drop-at, drop-drop, set-split, take-all, ext-getD, getD-set-same, getD-set-other, drop-append-add, take-append-add}
+use lib.ListN.{length, take, drop, set, length-append, length-drop}
+use lib.Seq.{length-take-le, take-at, drop-at, drop-drop, set-split}
 use Rattle.job.specs.Bytes.{pasted, joined}
 
 -- the two parts of a list, one behind the other

@@ -8,9 +8,12 @@ use Rattle.numbers.specs.Notation.{if-then}
 use Rattle.numbers.specs.Refusals.{refusal}
 use Rattle.numbers.specs.Walks.{table}
 use Rattle.job.specs.declared.Tally.{Tally}
-use Rattle.job.specs.Bytes.{valueAt, bytesOf, joined}
+use Rattle.graph.specs.Table.{unfit}
+use Rattle.job.specs.declared.Read.the-variants as read
+use Rattle.job.specs.declared.Written.the-variants as written
+use Rattle.job.specs.Bytes.{valueAt, bytesOf, joined, bytesFrom, pasted}
 use Rattle.job.specs.Format.{Job, recordOf, encoded, isRecord, mayFollow, isFull, faultOf, stepOf, holding}
-use Rattle.job.specs.Format.{Reading, taken, refused, readFrom, reading}
+use Rattle.job.specs.Format.{Reading, taken, refused, readFrom, reading, space, roomIn, filled, readInto, writtenInto}
 
 -- reading, with all that it computes by
 unfoldable computed : Tally → List ℕ → Reading
@@ -206,3 +209,46 @@ low-byte-first : reading (tally 0 0 1)
     ≡ taken (tally 0 0 1) (record { settings = 0x04030201 ∷ 5 ∷ 6 ∷ 7 ∷ []; poses = []; ends = []; edges = []; fixed = 0x0908 ∷ [] })
 unfolding computed
 low-byte-first = refl
+
+-- ---- i. the reader: room counts whole poses and whole edges of both lists; what stands behind what was read, and what is lent to a refused job, is as found
+
+room-of-unfit-length : roomIn (space (replicate 23 0) (replicate 5 0) (replicate 16 0) (replicate 3 0)) ≡ tally 1 2 3
+room-of-unfit-length = refl
+
+-- the settings in their order, the numbers in front, the rest as found
+settings-in-order :
+    readInto (recordOf 1 (bytesFrom 4 4 (5 ∷ 6 ∷ 7 ∷ 8 ∷ []) 0) ++ recordOf 4 (bytesOf 4 9) ++ end) (space (1 ∷ []) (2 ∷ []) (3 ∷ []) (4 ∷ 4 ∷ []))
+    ≡ (
+      read.Job (record { limit = 5; «cost_tolerance» = 6; «gradient_tolerance» = 7; damping = 8 }) (tally 0 0 1),
+      space (1 ∷ []) (2 ∷ []) (3 ∷ []) (9 ∷ 4 ∷ []),
+    )
+unfolding computed readInto filled pasted
+settings-in-order = refl
+
+refused-changes-nothing :
+    readInto (settings ++ recordOf 4 (bytesOf 4 9) ++ end ++ end) (space [] [] [] (4 ∷ 4 ∷ []))
+    ≡ (read.Refused (refusal 30 32), space [] [] [] (4 ∷ 4 ∷ []))
+unfolding computed readInto
+refused-changes-nothing = refl
+
+-- ---- j. the writer: 2 before 36; an output that the job fills is enough, one byte less is not; what stands behind is as found
+
+abbrev noPose : Job
+noPose = zeroJob 0 0 0
+
+unfit-before-short :
+    writtenInto (record { settings = replicate 4 0; poses = 0 ∷ []; ends = []; edges = []; fixed = [] }) [] ≡ (written.Refused (refusal 2 0), [])
+unfolding computed writtenInto unfit
+unfit-before-short = refl
+
+one-byte-too-few : writtenInto noPose (replicate 23 7) ≡ (written.Refused (refusal 36 0), replicate 23 7)
+unfolding computed writtenInto unfit
+one-byte-too-few = refl
+
+just-enough : writtenInto noPose (replicate 24 7) ≡ (written.Bytes 24, settings ++ end)
+unfolding computed writtenInto unfit pasted
+just-enough = refl
+
+behind-as-found : writtenInto noPose (replicate 26 7) ≡ (written.Bytes 24, settings ++ end ++ (7 ∷ 7 ∷ []))
+unfolding computed writtenInto unfit pasted
+behind-as-found = refl

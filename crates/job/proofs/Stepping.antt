@@ -1,26 +1,26 @@
 -- What a record without a fault is, what a step has passed, and that reading goes on from there; the count of records that bounds reading never ends it.
 -- Assumes nothing.
-use Prim.Native.Nat.{ℕ, zero, suc, _+_, _*_, _-_, _≤_, _<_}
+use Prim.Native.Nat.{ℕ, zero, suc, _+_, _-_, _≤_, _<_}
 use native.Mathlib.Omega.{arith}
 use mathlib.Core.Path.{_≡_, refl, sym, ap, subst, _∙_}
-use mathlib.Core.Bool.{Bool, true, false, not, _&&_, _||_}
-use mathlib.Core.Logic.{_⊎_, inl, inr, ⊎-elim}
-use mathlib.Core.List.{List, [], _∷_, _++_}
-use borrow.Author.Tests.{ltb-true, ltb-false, leb-true, leb-false, eqb-true, eqb-false, not-false}
-use lib.Dec.{eqb, ltb, leb}
+use mathlib.Core.Bool.{Bool, true, false, not, _&&_}
+use mathlib.Core.Logic.{_⊎_, ⊎-elim}
+use mathlib.Core.List.{List}
+use borrow.Author.Tests.{ltb-false, leb-true, leb-false, eqb-true, eqb-false, not-false}
+use lib.Dec.{eqb, leb}
 use lib.ListN.{length}
 use Rattle.numbers.specs.Notation.{if-then}
 use Rattle.numbers.specs.Refusals.{says}
 use Rattle.numbers.specs.declared.Refusal.{Refusal}
 use Rattle.numbers.specs.declared.Verdict.{Verdict}
 use Rattle.numbers.specs.declared.Verdict.the-variants as verdict
-use Rattle.numbers.proofs.Tests.{and-first, and-second, neither-first, neither-second, or-cases, true-or-false}
+use Rattle.numbers.proofs.Tests.{and-first, and-second, neither-first, or-cases}
 use Rattle.numbers.proofs.Reading.{fault-at}
 use Rattle.job.specs.declared.Tally.{Tally}
 use Rattle.job.specs.declared.Cursor.{Cursor}
 use Rattle.job.specs.declared.Step.{Step}
 use Rattle.job.specs.declared.Step.the-variants as step
-use Rattle.job.specs.Format.{Job, kindAt, lengthAt, isRecord, mayFollow, isFull, recordFaults, faultOf, endFaults, one, counted, behind, closed, stepFrom, stepOf}
+use Rattle.job.specs.Format.{Job, kindAt, lengthAt, isRecord, mayFollow, isFull, recordFaults, faultOf, endFaults, one, behind, closed, stepFrom, stepOf}
 use Rattle.job.specs.Format.{holding, Reading, taken, refused, onward, readFrom, reading, start, nothing, CursorIn}
 
 -- ---- kinds and lengths
@@ -190,7 +190,8 @@ module _ (room : Tally) (s : List ℕ) where
       go (stepOf room s c) refl (λ (d : Cursor). enough n m d (holding s (c .at) j))
     where
       go : (x : Step) → stepOf room s c ≡ x
-          → ((d : Cursor) → CursorIn s d → length s - d .at < n → length s - d .at < m → readFrom n room s d (holding s (c .at) j) ≡ readFrom m room s d (holding s (c .at) j))
+          → ((d : Cursor) → CursorIn s d → length s - d .at < n → length s - d .at < m
+          → readFrom n room s d (holding s (c .at) j) ≡ readFrom m room s d (holding s (c .at) j))
           → onward (readFrom n room s) s c j x ≡ onward (readFrom m room s) s c j x
       go step.Done e rec = refl
       go (step.Stop r) e rec = refl

@@ -1,5 +1,5 @@
 -- The laws of numbers in bytes: one byte more in front of a number, how large a number is, one number more behind numbers taken. Assumes nothing.
-use Prim.Native.Nat.{ℕ, zero, suc, _+_, _*_, _-_, _^_, _<_, _≤_}
+use Prim.Native.Nat.{ℕ, suc, _+_, _*_, _-_, _^_, _<_, _≤_}
 use native.Mathlib.Omega.{arith}
 use native.Mathlib.Nat.{pow-zero, pow-suc, pow-le-pow-right}
 use native.Mathlib.Numerals.{add-one}

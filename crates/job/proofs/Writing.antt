@@ -5,15 +5,20 @@ use native.Mathlib.Nat.{mul-le-mul-left}
 use native.Mathlib.Numerals.{add-one}
 use mathlib.Core.Path.{_≡_, refl, sym, ap, _∙_}
 use mathlib.Core.Bool.{Bool, true, false, not, _||_, or-false}
-use mathlib.Core.List.{List, _++_, append-nil}
+use mathlib.Core.List.{List, [], _∷_, _++_, append-nil}
 use lib.Dec.{ltb, eqb}
 use borrow.Author.Tests.{ltb-true, ltb-false, lt-ltb, le-ltb, eq-eqb, eqb-true, not-false}
 use lib.ListN.{length, getD, set, length-append}
 use Rattle.job.specs.Bytes.{bytesOf, bytesFrom, joined, pasted}
-use Rattle.job.specs.Format.{Job, tallyOf, recordOf, settingsRecord, poseRecord, edgeRecord, fixedRecord, encoded, sizeOf, writtenInto}
+use Rattle.job.specs.Format.{Job, tallyOf, recordOf, settingsRecord, poseRecord, edgeRecord, fixedRecord, encoded, sizeOf}
+use Rattle.job.specs.Format.{writeRows, writtenAs, writtenInto}
 use Rattle.job.specs.declared.Tally.{Tally}
+use Rattle.job.specs.declared.Written.{Written}
 use Rattle.job.specs.declared.Written.the-variants as written
-use Rattle.numbers.specs.Refusals.{refusal}
+use Rattle.numbers.specs.Refusals.{refusal, fault, verdict}
+use Rattle.numbers.specs.declared.Verdict.{Verdict}
+use Rattle.numbers.specs.declared.Verdict.the-variants as verdict
+use Rattle.numbers.proofs.Reading.{row-at, row-fault}
 use Rattle.graph.specs.Table.{unfit}
 use Rattle.job.proofs.Pasting.{pasted-more, pasted-set, length-pasted, length-joined}
 use Rattle.job.proofs.Encoding.{shifted, length-encoded, length-bytesOf, bytesOf-more, length-bytesFrom}
@@ -210,3 +215,20 @@ module _ (j : Job) (out : List ℕ) where
   written-whole u s =
       let r : ltb (length out) (length (encoded j)) ≡ false = rw (length-encoded j) s in
       rw (unfit-is (length (j .poses)) (length (j .ends)) (length (j .edges)) ∙ u, r, length-encoded j)
+
+-- as many bytes as the writer says it wrote stand in the output
+abbrev pub Within : Written × List ℕ → Type 0
+Within (written.Bytes n, out) = n ≤ length out
+Within (written.Refused r, out) = Unit {0}
+
+pub written-within : (j : Job) (out : List ℕ) → Within (writtenInto j out)
+unfolding writtenInto
+written-within j out = go (verdict (writeRows j out)) refl
+  where
+    go : (v : Verdict) → verdict (writeRows j out) ≡ v → Within (writtenAs j out v)
+    go (verdict.Refused r) e = tt
+    go verdict.Fine e =
+        let rest = row-at verdict.Fine (writeRows j out) 1 e in
+        let h = ltb-false (length out) (length (encoded j)) (row-fault (fault 36 (λ _. ltb (length out) (length (encoded j))) ∷ []) 1 0 0 rest (omega arith)) in
+        let n = length-pasted 0 (encoded j) out (omega arith) in
+        omega arith

@@ -75,6 +75,10 @@ encoded j =
     ++ joined (fixedRecord (j .fixed)) (tallyOf j .fixed)
     ++ endRecord
 
+-- the bytes of a job of so many poses, edges and fixed entries
+abbrev pub sizeOf : Tally → ℕ
+sizeOf t = 24 + 100 * t .poses + 44 * t .edges + 8 * t .fixed
+
 -- ---- which fault a record has
 
 abbrev pub lengthAt : List ℕ → ℕ → ℕ
@@ -150,18 +154,29 @@ stepFrom s c verdict.Fine = if-then (eqb (kindAt s (c .at)) 5) (closed (says (en
 unfoldable pub stepOf : Tally → List ℕ → Cursor → Step
 stepOf room s c = stepFrom s c (faultOf room s c)
 
--- the job with what the record at a place holds behind what it had
+-- what the record at a place holds
 abbrev pub numbersIf : Bool → List ℕ → List ℕ
 numbersIf b ns = if-then b ns []
 
+abbrev pub heldAt : List ℕ → ℕ → Job
+heldAt s at =
+    record {
+      settings = numbersIf (eqb (kindAt s at) 1) (valuesAt 4 4 s (at + 4));
+      poses = numbersIf (eqb (kindAt s at) 2) (valuesAt 8 12 s (at + 4));
+      ends = numbersIf (eqb (kindAt s at) 3) (valuesAt 4 2 s (at + 4));
+      edges = numbersIf (eqb (kindAt s at) 3) (valuesAt 4 8 s (at + 12));
+      fixed = numbersIf (eqb (kindAt s at) 4) (valuesAt 4 1 s (at + 4));
+    }
+
+-- behind what was read before
 unfoldable pub holding : List ℕ → ℕ → Job → Job
 holding s at j =
     record {
-      settings = j .settings ++ numbersIf (eqb (kindAt s at) 1) (valuesAt 4 4 s (at + 4));
-      poses = j .poses ++ numbersIf (eqb (kindAt s at) 2) (valuesAt 8 12 s (at + 4));
-      ends = j .ends ++ numbersIf (eqb (kindAt s at) 3) (valuesAt 4 2 s (at + 4));
-      edges = j .edges ++ numbersIf (eqb (kindAt s at) 3) (valuesAt 4 8 s (at + 12));
-      fixed = j .fixed ++ numbersIf (eqb (kindAt s at) 4) (valuesAt 4 1 s (at + 4));
+      settings = j .settings ++ heldAt s at .settings;
+      poses = j .poses ++ heldAt s at .poses;
+      ends = j .ends ++ heldAt s at .ends;
+      edges = j .edges ++ heldAt s at .edges;
+      fixed = j .fixed ++ heldAt s at .fixed;
     }
 
 -- how reading ends
@@ -183,9 +198,9 @@ readFrom (suc n) room s c j = onward (readFrom n room s) s c j (stepOf room s c)
 unfoldable pub reading : Tally → List ℕ → Reading
 reading room s = readFrom (suc (length s)) room s start nothing
 
--- what stands past so many bytes changes no answer: settings and as many records as there is room for, then one more of the longest kind, and a byte
+-- what stands past so many bytes changes no answer: as much as a job can take, with one more record of the longest kind in the place of its end, and a byte
 abbrev pub readAtMost : Tally → ℕ
-readAtMost room = 121 + 100 * room .poses + 44 * room .edges + 8 * room .fixed
+readAtMost room = sizeOf room + 97
 
 -- ---- the reader: its answer, and the lent numbers
 
@@ -265,15 +280,11 @@ IsTaken (refused r) = ⊥
 -- what the record at a cursor holds, behind what was counted before
 unfoldable pub taking : List ℕ → Cursor → Space → Space
 taking s c l =
-    space (pasted (12 * c .had .poses) (numbersIf (eqb (kindAt s (c .at)) 2) (valuesAt 8 12 s (c .at + 4))) (l .poses))
-    (pasted (2 * c .had .edges) (numbersIf (eqb (kindAt s (c .at)) 3) (valuesAt 4 2 s (c .at + 4))) (l .ends))
-    (pasted (8 * c .had .edges) (numbersIf (eqb (kindAt s (c .at)) 3) (valuesAt 4 8 s (c .at + 12))) (l .edges))
-    (pasted (c .had .fixed) (numbersIf (eqb (kindAt s (c .at)) 4) (valuesAt 4 1 s (c .at + 4))) (l .fixed))
+    space (pasted (12 * c .had .poses) (heldAt s (c .at) .poses) (l .poses))
+    (pasted (2 * c .had .edges) (heldAt s (c .at) .ends) (l .ends))
+    (pasted (8 * c .had .edges) (heldAt s (c .at) .edges) (l .edges))
+    (pasted (c .had .fixed) (heldAt s (c .at) .fixed) (l .fixed))
 
 abbrev pub filledBy : Reading → Space → Space
 filledBy (taken t j) l = filled j l
 filledBy (refused r) l = l
-
--- the bytes of a job of so many poses, edges and fixed entries
-abbrev pub sizeOf : Tally → ℕ
-sizeOf t = 24 + 100 * t .poses + 44 * t .edges + 8 * t .fixed

@@ -1,20 +1,20 @@
 -- Lines: a text behind another is one text, a text that fits is shown whole, and the kit's digits are the number in decimal. Assumes nothing.
-use Prim.Native.Nat.{ℕ, zero, suc, _+_, _-_, _*_, _/_, _%_, _^_, _≤_, _<_}
+use Prim.Native.Nat.{ℕ, zero, suc, _+_, _-_, _/_, _%_, _^_, _≤_, _<_}
 use native.Mathlib.Omega.{arith}
 use native.Mathlib.Nat.{pow-suc, pow-le-pow-right, eq-zero-or-pos}
 use mathlib.Core.Logic.{⊎-elim}
 use mathlib.Core.Path.{_≡_, refl, sym, ap, _∙_}
-use mathlib.Core.Bool.{Bool, true, false, cond}
+use mathlib.Core.Bool.{Bool, true, false}
 use mathlib.Core.List.{List, [], _∷_, _++_, append-assoc, append-nil}
 use borrow.Author.Tests.{lt-ltb, le-ltb}
-use lib.Dec.{ltb, lit<}
-use lib.ListN.{length, getD, take, drop, set, replicate, length-append, length-set, length-replicate}
+use lib.Dec.{ltb, lit<, lit≤}
+use lib.ListN.{length, getD, take, set, length-append, length-set, length-replicate}
 use lib.Seq.{take-suc, take-suc-set, take-length}
 use Rattle.io.specs.Digits.{glyph, digits, Fewest}
 use Rattle.numbers.specs.Notation.{if-then}
 use Rattle.numbers.proofs.Choices.{taken, left}
 use Rattle.line.specs.declared.Line.{Line}
-use Rattle.line.specs.Text.{decimalOf, decimal, yesNo, ranText, refusedText, empty, withByte, withText, lineOf, shown}
+use Rattle.line.specs.Text.{decimalOf, decimal, yesNo, ranText, refusedText, unreadableText, unwrittenText, empty, withByte, withText, lineOf, shown}
 
 -- ---- a text behind another
 
@@ -64,7 +64,8 @@ held-byte l t b h q =
     let y : ltb (l .used) 256 ≡ true = lt-ltb (l .used) 256 (omega arith) in
     let z : l .used + 1 ≡ suc (l .used) = omega arith in
     rw y (record {
-      is = ap (λ (k : ℕ). take k (set (l .bytes) (l .used) b)) z ∙ take-suc-set (l .bytes) (l .used) b (omega arith) ∙ ap (λ (x : List ℕ). x ++ (b ∷ [])) (h .is);
+      is =
+          ap (λ (k : ℕ). take k (set (l .bytes) (l .used) b)) z ∙ take-suc-set (l .bytes) (l .used) b (omega arith) ∙ ap (λ (x : List ℕ). x ++ (b ∷ [])) (h .is);
       many = rw (length-append t (b ∷ [])) (omega arith);
       room = length-set (l .bytes) (l .used) b ∙ r;
     })
@@ -136,7 +137,8 @@ decimal-length (suc k) n = go (ltb n 10) (decimal-length k (n / 10))
     go false h = let q = length-append (decimalOf k (n / 10)) ((48 + n % 10) ∷ []) in omega arith
 
 -- so both lines of a run are shown whole
-pub ran-shown : (poses edges iterations : ℕ) (converged : Bool) → shown (lineOf (ranText poses edges iterations converged)) ≡ ranText poses edges iterations converged
+pub ran-shown : (poses edges iterations : ℕ) (converged : Bool)
+    → shown (lineOf (ranText poses edges iterations converged)) ≡ ranText poses edges iterations converged
 unfolding ranText decimal
 ran-shown p e i b =
     let x = decimal-length 20 p in let y = decimal-length 20 e in let z = decimal-length 20 i in
@@ -152,3 +154,11 @@ unfolding refusedText decimal
 refused-shown n p =
     let x = decimal-length 20 n in let y = decimal-length 20 p in
     shown-whole _ (simp length-append (let q : 8 + length (decimalOf 20 n) + 4 + length (decimalOf 20 p) + 1 ≤ 256 = omega arith in q))
+
+pub unreadable-shown : shown (lineOf unreadableText) ≡ unreadableText
+unfolding unreadableText
+unreadable-shown = shown-whole _ (lit≤ tt)
+
+pub unwritten-shown : shown (lineOf unwrittenText) ≡ unwrittenText
+unfolding unwrittenText
+unwritten-shown = shown-whole _ (lit≤ tt)

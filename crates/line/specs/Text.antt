@@ -48,6 +48,10 @@ refusedText number place =
 unfoldable pub unreadableText : List ℕ
 unreadableText = ascii "can't read the input\n"
 
+-- a joined job that could not be written
+unfoldable pub unwrittenText : List ℕ
+unwrittenText = ascii "can't write the output\n"
+
 -- ---- a line by value: up to 256 bytes; what does not fit is left out
 
 abbrev pub empty : Line

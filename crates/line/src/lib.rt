@@ -1,9 +1,6 @@
 // What programs say, as lines by value: texts, numbers in decimal, and the two lines of a job's run (document 02, Wish 1).
 ghost use mathlib.Core.Path.{_≡_};
-ghost use mathlib.Core.List.{_++_};
-ghost use Prim.Native.Nat.{_≤_};
-ghost use lib.ListN.{length, take};
-ghost use Rattle.line.specs.Text.{decimal, ranText, refusedText, unreadableText, yesNo, empty as Text·empty, withByte, withText, lineOf};
+ghost use Rattle.line.specs.Text.{decimal, ranText, refusedText, unreadableText, unwrittenText, yesNo, empty as Text·empty, withByte, withText, lineOf};
 
 // The first `used` bytes are the text.
 pub struct Line {
@@ -89,6 +86,12 @@ pub fn unreadable() -> Line
     ensures { λ r. ⌜ r ≡ lineOf unreadableText ⌝ }
 {
     with_text(empty(), b"can't read the input\n")
+}
+
+pub fn unwritten() -> Line
+    ensures { λ r. ⌜ r ≡ lineOf unwrittenText ⌝ }
+{
+    with_text(empty(), b"can't write the output\n")
 }
 
 fn write(fd: i32, bytes: &[u8], used: usize) {

@@ -1,0 +1,108 @@
+-- A job's run: document 02, Wish 1, "A job means a DOF 6 run". What was read is run by `optimized`, every setting as it stands in the job, and where that
+-- succeeds the job is written again with the new poses. Patterns become floats, and floats patterns, here and nowhere else. Definitions only.
+use Prim.Native.Nat.{ℕ}
+use mathlib.Core.List.{List, map}
+use lib.ListN.{length, replicate}
+use lib.Ieee.{Float, Format, binary32, binary64, ofBits, toBits}
+use Rattle.numbers.specs.Notation.{num}
+use Rattle.graph.specs.Lent.{lent}
+use Rattle.graph.specs.declared.Manifold.the-variants.{Se3}
+use Rattle.graph.specs.declared.Settings.{Settings}
+use Rattle.sparse_pgo.specs.Optimize.{After, optimized}
+use Rattle.sparse_pgo.specs.declared.Answer.{Answer}
+use Rattle.sparse_pgo.specs.declared.Answer.the-variants as answer
+use Rattle.job.specs.Format.{Job, Space, space, Reading, taken, refused, reading, settingsFrom, writtenInto}
+use Rattle.job.specs.declared.Tally.{Tally}
+use Rattle.job.specs.declared.SettingBits.{SettingBits}
+use Rattle.job.specs.declared.Written.{Written}
+use Rattle.job.specs.declared.Written.the-variants as written
+use Rattle.line.specs.Text.{ranText, refusedText}
+use Rattle.join_job.specs.declared.Report.{Report}
+use Rattle.join_job.specs.declared.Report.the-variants as report
+
+-- ---- bits and floats
+
+abbrev pub floats : Format → List ℕ → List Float
+floats f ns = map (ofBits f) ns
+
+abbrev pub patterns : Format → List Float → List ℕ
+patterns f xs = map (toBits f) xs
+
+abbrev pub settingsAs : SettingBits → Settings
+settingsAs t =
+    record {
+      limit = t .limit;
+      «cost_tolerance» = ofBits binary32 (t .«cost_tolerance»);
+      «gradient_tolerance» = ofBits binary32 (t .«gradient_tolerance»);
+      damping = ofBits binary32 (t .damping);
+    }
+
+-- ---- the run
+
+-- the run over what is lent: work for 64 free poses with six degrees of freedom and for 256 poses, all +0 before it
+unfoldable pub ranOver : SettingBits → List Float → List ℕ → List Float → List ℕ → List Float → After
+ranOver t poses ends edges fixed out =
+    let work32 = replicate 148608 (num 0) in
+    let work64 = replicate 6144 (num 0) in
+    optimized (lent Se3 poses ends edges fixed (settingsAs t) (record { work32 = length work32; work64 = length work64; out = length out })) work32 work64 out
+
+-- an output as long as the poses
+unfoldable pub runOf : SettingBits → Space → After
+runOf t l = ranOver t (floats binary64 (l .poses)) (l .ends) (floats binary32 (l .edges)) (l .fixed) (replicate (length (l .poses)) (num 0))
+
+unfoldable pub jobRun : Job → After
+jobRun j = runOf (settingsFrom (j .settings)) (space (j .poses) (j .ends) (j .edges) (j .fixed))
+
+-- ---- what is said of a job
+
+abbrev pub reportAs : Tally → Answer → Report
+reportAs had (answer.Refused r) = report.Refused r
+reportAs had (answer.Joined j) = report.Ran (had .poses) (had .edges) (j .iterations) (j .converged)
+
+abbrev pub reportFrom : Reading → Report
+reportFrom (refused r) = report.Refused r
+reportFrom (taken had j) = reportAs had (jobRun j .answer)
+
+-- by a program that has room for so many
+unfoldable pub reportOf : Tally → List ℕ → Report
+reportOf room s = reportFrom (reading room s)
+
+-- the line that a program prints
+abbrev pub reportText : Report → List ℕ
+reportText (report.Ran poses edges iterations converged) = ranText poses edges iterations converged
+reportText (report.Refused r) = refusedText (r .number) (r .place)
+
+-- ---- the joined job: the same settings, edges and fixed entries, the new poses
+
+abbrev pub withPoses : Job → List ℕ → Job
+withPoses j poses = record { settings = j .settings; poses = poses; ends = j .ends; edges = j .edges; fixed = j .fixed }
+
+-- the report, the bytes written, the output
+abbrev pub writtenWith : Report → Written × List ℕ → Report × ℕ × List ℕ
+writtenWith said (written.Bytes n, out) = (said, n, out)
+writtenWith said (written.Refused r, out) = (report.Refused r, 0, out)
+
+abbrev pub joinedAs : Tally → Job → List ℕ → After → Answer → Report × ℕ × List ℕ
+joinedAs had j out a (answer.Refused r) = (report.Refused r, 0, out)
+joinedAs had j out a (answer.Joined x) =
+    writtenWith (reportAs had (answer.Joined x)) (writtenInto (withPoses j (patterns binary64 (a .out))) out)
+
+-- the job that was read is run, and written again
+unfoldable pub joinedWith : Tally → Job → List ℕ → Report × ℕ × List ℕ
+joinedWith had j out = joinedAs had j out (jobRun j) (jobRun j .answer)
+
+abbrev pub joinedFrom : List ℕ → Reading → Report × ℕ × List ℕ
+joinedFrom out (refused r) = (report.Refused r, 0, out)
+joinedFrom out (taken had j) = joinedWith had j out
+
+-- nothing is written where anything is refused
+unfoldable pub joinedInto : Tally → List ℕ → List ℕ → Report × ℕ × List ℕ
+joinedInto room s out = joinedFrom out (reading room s)
+
+-- ---- the two programs' room
+
+abbrev pub smallRoom : Tally
+smallRoom = record { poses = 16; edges = 64; fixed = 16 }
+
+abbrev pub fullRoom : Tally
+fullRoom = record { poses = 256; edges = 1024; fixed = 256 }

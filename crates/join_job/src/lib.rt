@@ -1,0 +1,373 @@
+// A job's run (document 02, Wish 1): a job is read, run with six degrees of freedom a pose, and written again with the new poses. What a program says of it is
+// made here too, so that programs only read and write.
+ghost use mathlib.Core.Path.{_≡_};
+ghost use Prim.Native.Nat.{_*_, _≤_};
+ghost use lib.Ieee.{binary32, binary64, ofBits, toBits};
+ghost use lib.ListN.{length, take, replicate};
+ghost use Rattle.numbers.specs.Notation.{num};
+ghost use Rattle.io.specs.Counts.{Counts};
+ghost use Rattle.job.specs.Format.{space, jobOf, sizeOf, readAtMost};
+ghost use Rattle.line.specs.Text.{lineOf};
+ghost use Rattle.join_job.specs.Joining.{floats, patterns, settingsAs, ranOver, runOf, joinedWith, joinedInto};
+ghost use Rattle.join_job.specs.Joining.{reportOf, reportText, smallRoom, fullRoom};
+use graph::Settings;
+use job::Read;
+use job::SettingBits;
+use job::Tally;
+use job::Written;
+use line::Line;
+use numbers::Refusal;
+use sparse_pgo::Answer;
+
+// What is said of a job: poses, edges, iterations and whether it converged; or why it was turned down.
+pub enum Report {
+    Ran(usize, usize, u32, bool),
+    Refused(Refusal),
+}
+
+// And the bytes of the joined job.
+pub struct Joining {
+    pub report: Report,
+    pub bytes: usize,
+}
+
+// ---- bits and floats, for every pattern: a NaN's pattern gives a NaN, and a NaN one pattern
+
+fn double_of(bits: u64) -> f64
+    ensures { λ r. ⌜ r ≡ ofBits binary64 bits ⌝ }
+{
+    if 0x7ff0_0000_0000_0000 < bits % 0x8000_0000_0000_0000 {
+        return 0.0 / 0.0;
+    }
+    f64::from_bits(bits)
+}
+
+fn single_of(bits: u32) -> f32
+    ensures { λ r. ⌜ r ≡ ofBits binary32 bits ⌝ }
+{
+    if 0x7f80_0000 < bits % 0x8000_0000 {
+        return 0.0 / 0.0;
+    }
+    f32::from_bits(bits)
+}
+
+fn bits_of(x: f64) -> u64
+    ensures { λ r. ⌜ r ≡ toBits binary64 x ⌝ }
+{
+    if x != x {
+        return 0x7ff8_0000_0000_0000;
+    }
+    f64::to_bits(x)
+}
+
+// Room for the floats of 256 poses and of 1,024 edges.
+fn blank_doubles() -> [f64; 3072]
+    ensures { λ r. ⌜ r ≡ replicate 3072 (num 0) ⌝ }
+{
+    [0.0; 3072]
+}
+
+fn blank_singles() -> [f32; 8192]
+    ensures { λ r. ⌜ length r ≡ 8192 ⌝ }
+{
+    [0.0; 8192]
+}
+
+// The floats of at most so many patterns, from the start on.
+fn doubles(from: &[u64]) -> [f64; 3072]
+    requires { ⌜ length (now from) ≤ 3072 ⌝ }
+    ensures { λ r. ⌜ (length r ≡ 3072) × (take (length (now (from .entry))) r ≡ floats binary64 (now (from .entry))) ⌝ }
+{
+    let mut to = blank_doubles();
+    let mut i = 0usize;
+    while i < from.len() {
+        to[i] = double_of(from[i]);
+        i += 1;
+    }
+    to
+}
+
+fn singles(from: &[u32]) -> [f32; 8192]
+    requires { ⌜ length (now from) ≤ 8192 ⌝ }
+    ensures { λ r. ⌜ (length r ≡ 8192) × (take (length (now (from .entry))) r ≡ floats binary32 (now (from .entry))) ⌝ }
+{
+    let mut to = blank_singles();
+    let mut i = 0usize;
+    while i < from.len() {
+        to[i] = single_of(from[i]);
+        i += 1;
+    }
+    to
+}
+
+fn bits(from: &[f64], to: &mut [u64])
+    requires { ⌜ length (now to) ≡ length (now from) ⌝ }
+    ensures { λ _. ⌜ now (to .exit) ≡ patterns binary64 (now (from .entry)) ⌝ }
+{
+    let mut i = 0usize;
+    while i < to.len() {
+        to[i] = bits_of(from[i]);
+        i += 1;
+    }
+}
+
+fn settings_of(t: SettingBits) -> Settings
+    ensures { λ r. ⌜ r ≡ settingsAs t ⌝ }
+{
+    Settings {
+        limit: t.limit,
+        cost_tolerance: single_of(t.cost_tolerance),
+        gradient_tolerance: single_of(t.gradient_tolerance),
+        damping: single_of(t.damping),
+    }
+}
+
+// ---- the run
+
+// The run over work of its own: for 64 free poses with six degrees of freedom, and for 256 poses.
+fn run_over(
+    t: SettingBits,
+    poses: &[f64],
+    ends: &[u32],
+    edges: &[f32],
+    fixed: &[u32],
+    out: &mut [f64],
+) -> Answer
+    ensures { λ r. ⌜ r ≡ ranOver t (now (poses .entry)) (now (ends .entry)) (now (edges .entry)) (now (fixed .entry)) (now (out .entry)) .answer ⌝ }
+    ensures { λ _. ⌜ now (out .exit) ≡ ranOver t (now (poses .entry)) (now (ends .entry)) (now (edges .entry)) (now (fixed .entry)) (now (out .entry)) .out ⌝ }
+{
+    let mut work32 = [0.0f32; 148608];
+    let mut work64 = [0.0f64; 6144];
+    sparse_pgo::optimize(
+        poses,
+        ends,
+        edges,
+        fixed,
+        settings_of(t),
+        &mut work32,
+        &mut work64,
+        out,
+    )
+}
+
+// The run of what was read; the new poses' bits where it succeeds.
+fn run_job(
+    t: SettingBits,
+    poses: &[u64],
+    ends: &[u32],
+    edges: &[u32],
+    fixed: &[u32],
+    new: &mut [u64],
+) -> Answer
+    requires { ⌜ (length (now poses) ≤ 3072) × (length (now edges) ≤ 8192) × (length (now new) ≡ length (now poses)) ⌝ }
+    ensures { λ r. ⌜ r ≡ runOf t (space (now (poses .entry)) (now (ends .entry)) (now (edges .entry)) (now (fixed .entry))) .answer ⌝ }
+    ensures { λ _. ⌜ now (new .exit) ≡ patterns binary64 (runOf t (space (now (poses .entry)) (now (ends .entry)) (now (edges .entry)) (now (fixed .entry))) .out) ⌝ }
+{
+    let n = poses.len();
+    let m = edges.len();
+    let doubled = doubles(poses);
+    let singled = singles(edges);
+    let mut out = blank_doubles();
+    let a = run_over(t, &doubled[..n], ends, &singled[..m], fixed, &mut out[..n]);
+    bits(&out[..n], new);
+    a
+}
+
+// Room for the bits of 256 poses, 1,024 edges and 256 fixed entries.
+fn blank_poses() -> [u64; 3072]
+    ensures { λ r. ⌜ length r ≡ 3072 ⌝ }
+{
+    [0; 3072]
+}
+
+fn blank_ends() -> [u32; 2048]
+    ensures { λ r. ⌜ length r ≡ 2048 ⌝ }
+{
+    [0; 2048]
+}
+
+fn blank_edges() -> [u32; 8192]
+    ensures { λ r. ⌜ length r ≡ 8192 ⌝ }
+{
+    [0; 8192]
+}
+
+fn blank_fixed() -> [u32; 256]
+    ensures { λ r. ⌜ length r ≡ 256 ⌝ }
+{
+    [0; 256]
+}
+
+// Room for the bytes of 16 poses, 64 edges and 16 fixed entries.
+fn blank_output() -> [u8; 4568]
+    ensures { λ r. ⌜ length r ≡ 4568 ⌝ }
+{
+    [0; 4568]
+}
+
+fn refused(r: Refusal) -> Joining
+    ensures { λ x. ⌜ x ≡ record { report = Report.Refused r; bytes = 0 } ⌝ }
+{
+    Joining {
+        report: Report::Refused(r),
+        bytes: 0,
+    }
+}
+
+// Runs what was read, and writes the job with the new poses.
+fn join_read(
+    t: SettingBits,
+    had: Tally,
+    poses: &[u64],
+    ends: &[u32],
+    edges: &[u32],
+    fixed: &[u32],
+    out: &mut [u8],
+) -> Joining
+    requires { ⌜ (length (now poses) ≤ 3072) × (length (now edges) ≤ 8192) ⌝ }
+    ensures { λ r. ⌜ (r .report, r .bytes, now (out .exit)) ≡
+        joinedWith had (jobOf t (space (now (poses .entry)) (now (ends .entry)) (now (edges .entry)) (now (fixed .entry)))) (now (out .entry)) ⌝ }
+{
+    let n = poses.len();
+    let mut new = blank_poses();
+    let a = run_job(t, poses, ends, edges, fixed, &mut new[..n]);
+    let j = match a {
+        Answer::Joined(j) => j,
+        Answer::Refused(r) => {
+            return refused(r);
+        }
+    };
+    match job::write_job(t, &new[..n], ends, edges, fixed, out) {
+        Written::Bytes(k) => Joining {
+            report: Report::Ran(had.poses, had.edges, j.iterations, j.converged),
+            bytes: k,
+        },
+        Written::Refused(r) => refused(r),
+    }
+}
+
+// The same of numbers that stand at the start of larger arrays.
+fn join_front(
+    t: SettingBits,
+    had: Tally,
+    poses: &[u64],
+    ends: &[u32],
+    edges: &[u32],
+    fixed: &[u32],
+    out: &mut [u8],
+) -> Joining
+    requires { ⌜ (had .poses ≤ 256) × (had .edges ≤ 1024) × (had .fixed ≤ 256) ⌝ }
+    requires { ⌜ (length (now poses) ≡ 3072) × (length (now ends) ≡ 2048) × (length (now edges) ≡ 8192) × (length (now fixed) ≡ 256) ⌝ }
+    ensures { λ r. ⌜ (r .report, r .bytes, now (out .exit)) ≡ joinedWith had (jobOf t (space (take (12 * had .poses) (now (poses .entry)))
+        (take (2 * had .edges) (now (ends .entry))) (take (8 * had .edges) (now (edges .entry))) (take (had .fixed) (now (fixed .entry))))) (now (out .entry)) ⌝ }
+{
+    let p = 12 * had.poses;
+    let e = 2 * had.edges;
+    let g = 8 * had.edges;
+    let f = had.fixed;
+    join_read(
+        t,
+        had,
+        &poses[..p],
+        &ends[..e],
+        &edges[..g],
+        &fixed[..f],
+        out,
+    )
+}
+
+// A job of at most so many poses, edges and fixed entries.
+fn join_within(room: Tally, bytes: &[u8], out: &mut [u8]) -> Joining
+    requires { ⌜ (room .poses ≤ 256) × (room .edges ≤ 1024) × (room .fixed ≤ 256) ⌝ }
+    ensures { λ r. ⌜ (r .report, r .bytes, now (out .exit)) ≡ joinedInto room (now (bytes .entry)) (now (out .entry)) ⌝ }
+{
+    let mut poses = blank_poses();
+    let mut ends = blank_ends();
+    let mut edges = blank_edges();
+    let mut fixed = blank_fixed();
+    let p = 12 * room.poses;
+    let e = 2 * room.edges;
+    let g = 8 * room.edges;
+    let f = room.fixed;
+    match job::read_job(
+        bytes,
+        &mut poses[..p],
+        &mut ends[..e],
+        &mut edges[..g],
+        &mut fixed[..f],
+    ) {
+        Read::Refused(r) => refused(r),
+        Read::Job(t, had) => join_front(t, had, &poses, &ends, &edges, &fixed, out),
+    }
+}
+
+// At document 01's limits: the joined job goes to the start of out.
+pub fn join(bytes: &[u8], out: &mut [u8]) -> Joining
+    ensures { λ r. ⌜ (r .report, r .bytes, now (out .exit)) ≡ joinedInto fullRoom (now (bytes .entry)) (now (out .entry)) ⌝ }
+    ensures { λ r. ⌜ Counts (r .bytes) (now (out .exit)) ⌝ }
+{
+    let room = Tally {
+        poses: 256,
+        edges: 1024,
+        fixed: 256,
+    };
+    join_within(room, bytes, out)
+}
+
+// At the wish's own: 16 poses, 64 edges, 16 fixed entries, and nothing but a line is wanted. No job within these limits takes more than 4,568 bytes.
+pub fn join_small(bytes: &[u8]) -> Report
+    ensures { λ r. ⌜ r ≡ reportOf smallRoom (now (bytes .entry)) ⌝ }
+{
+    let room = Tally {
+        poses: 16,
+        edges: 64,
+        fixed: 16,
+    };
+    let mut out = blank_output();
+    let j = join_within(room, bytes, &mut out);
+    j.report
+}
+
+// ---- what a program holds
+
+// As many bytes of input as can matter to the answer of `join_small`, and of `join`; and as many of output as the largest joined job has.
+pub fn small_input() -> [u8; 4665]
+    ensures { λ r. ⌜ r ≡ replicate (readAtMost smallRoom) 0 ⌝ }
+    ensures { λ r. ⌜ 4665 ≡ length r ⌝ }
+{
+    [0; 4665]
+}
+
+pub fn full_input() -> [u8; 72825]
+    ensures { λ r. ⌜ r ≡ replicate (readAtMost fullRoom) 0 ⌝ }
+    ensures { λ r. ⌜ 72825 ≡ length r ⌝ }
+{
+    [0; 72825]
+}
+
+pub fn full_output() -> [u8; 72728]
+    ensures { λ r. ⌜ r ≡ replicate (sizeOf fullRoom) 0 ⌝ }
+    ensures { λ r. ⌜ 72728 ≡ length r ⌝ }
+{
+    [0; 72728]
+}
+
+// ---- what a program says
+
+fn wide(n: u32) -> u64
+    ensures { λ r. ⌜ r ≡ n ⌝ }
+{
+    n as u64
+}
+
+// The line that a program prints.
+pub fn said(r: Report) -> Line
+    ensures { λ l. ⌜ l ≡ lineOf (reportText r) ⌝ }
+{
+    match r {
+        Report::Ran(poses, edges, iterations, converged) => {
+            line::ran(poses as u64, edges as u64, wide(iterations), converged)
+        }
+        Report::Refused(r) => line::refused(wide(r.number), r.place as u64),
+    }
+}
