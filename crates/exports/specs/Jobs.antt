@@ -17,13 +17,13 @@ use Rattle.exports.specs.Exported.{place32, refusedEight}
 
 -- ---- pgo_read_job: limit, cost tolerance, gradient tolerance, damping, poses, edges, fixed, 0
 
+abbrev pub readEight : SettingBits → Tally → List ℕ
+readEight t had =
+    t .limit ∷ t .«cost_tolerance» ∷ t .«gradient_tolerance» ∷ t .damping
+    ∷ place32 (had .poses) ∷ place32 (had .edges) ∷ place32 (had .fixed) ∷ 0 ∷ []
+
 abbrev pub readTold : Read × Space → ℕ × Space × List ℕ
-readTold (read.Job t had, l) = (
-  0,
-  l,
-  t .limit ∷ t .«cost_tolerance» ∷ t .«gradient_tolerance» ∷ t .damping
-      ∷ place32 (had .poses) ∷ place32 (had .edges) ∷ place32 (had .fixed) ∷ 0 ∷ [],
-)
+readTold (read.Job t had, l) = (0, l, readEight t had)
 readTold (read.Refused r, l) = (r .number, l, refusedEight r)
 
 unfoldable pub readOut : List ℕ → Space → List ℕ → ℕ × Space × List ℕ
