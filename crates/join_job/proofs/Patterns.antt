@@ -46,6 +46,13 @@ pub nan-bits : 0x7ff8_0000_0000_0000 ≡ toBits binary64 nan
 unfolding toBits
 nan-bits = refl
 
+-- each setting is the job's own: limit 3, tolerances 1 and 2, damping 4
+settings-as :
+    settingsAs (record { limit = 3; «cost_tolerance» = 0x3f80_0000; «gradient_tolerance» = 0x4000_0000; damping = 0x4080_0000 })
+    ≡ record { limit = 3; «cost_tolerance» = num 1; «gradient_tolerance» = num 2; damping = num 4 }
+unfolding ofBits ofFields odd ratio round
+settings-as = refl
+
 -- what a run over work of zeros gives
 pub over-is : (t : SettingBits) (poses : List Float) (ends : List ℕ) (edges : List Float) (fixed : List ℕ) (out work32 work64 : List Float)
     (set : Settings) (a : After) → set ≡ settingsAs t → work32 ≡ replicate 148608 (num 0) → work64 ≡ replicate 6144 (num 0)

@@ -1,5 +1,6 @@
 -- A job's run: document 02, Wish 1, "A job means a DOF 6 run". What was read is run by `optimized`, every setting as it stands in the job, and where that
--- succeeds the job is written again with the new poses. Patterns become floats, and floats patterns, here and nowhere else. Definitions only.
+-- succeeds the job is written again with the new poses. A job's patterns become floats, and floats patterns, here and nowhere else.
+-- Definitions only.
 use Prim.Native.Nat.{ℕ}
 use mathlib.Core.List.{List, map}
 use lib.ListN.{length, replicate}

@@ -330,7 +330,7 @@ pub fn join_small(bytes: &[u8]) -> Report
 
 // ---- what a program holds
 
-// As many bytes of input as can matter to the answer of `join_small`, and of `join`; and as many of output as the largest joined job has.
+// No byte of input past these can change the answer of `join_small`, and of `join`; and as many bytes of output as the largest joined job has.
 pub fn small_input() -> [u8; 4665]
     ensures { λ r. ⌜ r ≡ replicate (readAtMost smallRoom) 0 ⌝ }
     ensures { λ r. ⌜ 4665 ≡ length r ⌝ }
