@@ -102,10 +102,11 @@ fn with_measured(edges: [f32; 520], k: usize, edge: [f32; 8]) -> [f32; 520]
     r
 }
 
-// Edge k is another.
-pub fn with_edge(g: Graph, k: usize, from: u32, to: u32, edge: [f32; 8]) -> Graph
-    requires { ⌜ k < 65 ⌝ }
-{
+// Edge k, of 65, is another.
+pub fn with_edge(g: Graph, k: usize, from: u32, to: u32, edge: [f32; 8]) -> Graph {
+    if 65 <= k {
+        return g;
+    }
     let mut ends = g.ends;
     ends[k * 2] = from;
     ends[k * 2 + 1] = to;
