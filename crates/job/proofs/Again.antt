@@ -17,6 +17,7 @@ use Rattle.job.specs.Bytes.{valuesAt, pasted}
 use Rattle.job.specs.Format.{Job, Space, space, tallyOf, encoded, sizeOf, Reading, taken, refused, reading, roomIn, filled, settingsFrom, given, readInto}
 use Rattle.job.specs.Format.{settingNumbers, jobOf, writtenInto}
 use Rattle.job.proofs.Bytewise.{Bytes}
+use Rattle.job.proofs.Along.{job-same}
 use Rattle.job.proofs.Encoding.{length-encoded}
 use Rattle.job.proofs.Writing.{misfit, written-whole}
 use Rattle.job.proofs.Trips.{read-settings, read-lengths, read-written}
@@ -32,11 +33,6 @@ front-pasted n xs l e = take-at xs (drop (0 + length xs) l) n e
 settings-back : (s : List ℕ) → settingNumbers (settingsFrom (valuesAt 4 4 s 4)) ≡ valuesAt 4 4 s 4
 unfolding table
 settings-back s = refl
-
-job-same : (a b c d e a' b' c' d' e' : List ℕ) → a ≡ a' → b ≡ b' → c ≡ c' → d ≡ d' → e ≡ e'
-    → _≡_ {A = Job} (record { settings = a; poses = b; ends = c; edges = d; fixed = e })
-    (record { settings = a'; poses = b'; ends = c'; edges = d'; fixed = e' })
-job-same a b c d e a' b' c' d' e' v w x y z = rw (v, w, x, y, z)
 
 module _ (room : Tally) (s : List ℕ) (t : Tally) (j : Job) (e : reading room s ≡ taken t j) where
   -- what was taken, from the lent lists, is the job

@@ -74,13 +74,13 @@ along-start room s =
 abbrev cursorAt : ℕ → ℕ → ℕ → ℕ → ℕ → Cursor
 cursorAt at last p e f = record { at = at; last = last; had = record { poses = p; edges = e; fixed = f } }
 
-abbrev jobWith : List ℕ → List ℕ → List ℕ → List ℕ → List ℕ → Job
+abbrev pub jobWith : List ℕ → List ℕ → List ℕ → List ℕ → List ℕ → Job
 jobWith settings poses ends edges fixed = record { settings = settings; poses = poses; ends = ends; edges = edges; fixed = fixed }
 
 cursor-same : (at last p p' e e' f f' : ℕ) → p ≡ p' → e ≡ e' → f ≡ f' → cursorAt at last p e f ≡ cursorAt at last p' e' f'
 cursor-same at last p p' e e' f f' x y z = rw (x, y, z)
 
-job-same : (a b c d e a' b' c' d' e' : List ℕ) → a ≡ a' → b ≡ b' → c ≡ c' → d ≡ d' → e ≡ e' → jobWith a b c d e ≡ jobWith a' b' c' d' e'
+pub job-same : (a b c d e a' b' c' d' e' : List ℕ) → a ≡ a' → b ≡ b' → c ≡ c' → d ≡ d' → e ≡ e' → jobWith a b c d e ≡ jobWith a' b' c' d' e'
 job-same a b c d e a' b' c' d' e' v w x y z = rw (v, w, x, y, z)
 
 module _ (s : List ℕ) (c : Cursor) where
