@@ -30,7 +30,7 @@ front-pasted : (n : ℕ) (xs l : List ℕ) → length xs ≡ n → take n (paste
 unfolding pasted
 front-pasted n xs l e = take-at xs (drop (0 + length xs) l) n e
 
-settings-back : (s : List ℕ) → settingNumbers (settingsFrom (valuesAt 4 4 s 4)) ≡ valuesAt 4 4 s 4
+pub settings-back : (s : List ℕ) → settingNumbers (settingsFrom (valuesAt 4 4 s 4)) ≡ valuesAt 4 4 s 4
 unfolding table
 settings-back s = refl
 
@@ -63,24 +63,22 @@ module _ (room : Tally) (s : List ℕ) (t : Tally) (j : Job) (e : reading room s
       ∙ ap (λ (x : ℕ). (written.Bytes x, pasted 0 (encoded j) out)) n
       ∙ ap (λ (x : List ℕ). (written.Bytes (length s), pasted 0 x out)) w
 
+pub given-taken : (x : Reading) (l l' : Space) (t : SettingBits) (had : Tally) → (read.Job t had, l') ≡ given l x
+    → (j : Job) × (x ≡ taken had j) × (t ≡ settingsFrom (j .settings)) × (l' ≡ filled j l)
+given-taken (taken h j) l l' t had e =
+    let q = ap (λ (y : Read × Space). y .0) e in
+    let tally : h ≡ had = cc in
+    let set : t ≡ settingsFrom (j .settings) = cc in
+    (j, ap (λ (y : Tally). taken y j) tally, set, ap (λ (y : Read × Space). y .1) e)
+given-taken (refused k) l l' t had e = let q = ap (λ (y : Read × Space). y .0) e in let z : _≡_ {A = ℕ} 0 1 = cc in absurd (omega arith)
+
 -- what is read and written again is the same bytes, whatever was lent and however long the output
 pub read-again : (s : List ℕ) (l m : Space) (t : SettingBits) (had : Tally) (out : List ℕ) → Bytes s → length s ≤ length out
     → readInto s l ≡ (read.Job t had, m) → writtenInto (jobOf t (front had m)) out ≡ (written.Bytes (length s), pasted 0 s out)
 unfolding readInto
-read-again s l m t had out b h e = go (reading (roomIn l) s) refl e
-  where
-    go : (x : Reading) → reading (roomIn l) s ≡ x → given l x ≡ (read.Job t had, m)
-        → writtenInto (jobOf t (front had m)) out ≡ (written.Bytes (length s), pasted 0 s out)
-    go (refused r) p q =
-        let k : read.Refused r ≡ read.Job t had = ap (λ (w : Read × Space). w .0) q in
-        absurd (let z : _≡_ {A = ℕ} 0 1 = cc in omega arith)
-    go (taken u j) p q =
-        let k : read.Job (settingsFrom (j .settings)) u ≡ read.Job t had = ap (λ (w : Read × Space). w .0) q in
-        let x : settingsFrom (j .settings) ≡ t = cc in
-        let y : u ≡ had = cc in
-        let z : filled j l ≡ m = ap (λ (w : Read × Space). w .1) q in
-        ap (λ (v : SettingBits). writtenInto (jobOf v (front had m)) out) (sym x)
-        ∙ ap (λ (v : Tally). writtenInto (jobOf (settingsFrom (j .settings)) (front v m)) out) (sym y)
-        ∙ ap (λ (v : Space). writtenInto (jobOf (settingsFrom (j .settings)) (front u v)) out) (sym z)
-        ∙ ap (λ (v : Job). writtenInto v out) (taken-again (roomIn l) s u j p l)
-        ∙ written-again (roomIn l) s u j p out b h
+read-again s l m t had out b h e =
+    let x = given-taken (reading (roomIn l) s) l m t had (sym e) in
+    ap (λ (v : SettingBits). writtenInto (jobOf v (front had m)) out) (x .2)
+    ∙ ap (λ (v : Space). writtenInto (jobOf (settingsFrom (x .0 .settings)) (front had v)) out) (x .3)
+    ∙ ap (λ (v : Job). writtenInto v out) (taken-again (roomIn l) s had (x .0) (x .1) l)
+    ∙ written-again (roomIn l) s had (x .0) (x .1) out b h

@@ -20,7 +20,7 @@ use Rattle.job.specs.declared.SettingBits.{SettingBits}
 use Rattle.job.specs.declared.Read.{Read}
 use Rattle.job.specs.declared.Read.the-variants as read
 use Rattle.job.specs.declared.Written.{Written}
-use Rattle.job.proofs.Again.{front}
+use Rattle.job.proofs.Again.{front, settings-back, given-taken}
 use Rattle.job.proofs.Trips.{read-settings, read-lengths, read-tally}
 use Rattle.join_job.specs.Joining.{patterns, runOf, jobRun, reportAs, writtenWith, joinedAs, joinedWith, joinedFrom, joinedInto}
 use Rattle.join_job.specs.declared.Report.the-variants as report
@@ -57,15 +57,6 @@ given-refused : (x : Reading) (l l' : Space) (r : Refusal) → (read.Refused r, 
 given-refused (taken h j) l l' r e = let q = ap (λ (y : Read × Space). y .0) e in let z : _≡_ {A = ℕ} 0 1 = cc in absurd (omega arith)
 given-refused (refused k) l l' r e = let q = ap (λ (y : Read × Space). y .0) e in let k-is : k ≡ r = cc in ap refused k-is
 
-given-taken : (x : Reading) (l l' : Space) (t : SettingBits) (had : Tally) → (read.Job t had, l') ≡ given l x
-    → (j : Job) × (x ≡ taken had j) × (t ≡ settingsFrom (j .settings)) × (l' ≡ filled j l)
-given-taken (taken h j) l l' t had e =
-    let q = ap (λ (y : Read × Space). y .0) e in
-    let tally : h ≡ had = cc in
-    let set : t ≡ settingsFrom (j .settings) = cc in
-    (j, ap (λ (y : Tally). taken y j) tally, set, ap (λ (y : Read × Space). y .1) e)
-given-taken (refused k) l l' t had e = let q = ap (λ (y : Read × Space). y .0) e in let z : _≡_ {A = ℕ} 0 1 = cc in absurd (omega arith)
-
 -- ---- arrays that a job was read into the front of
 
 -- with other numbers at the front
@@ -77,10 +68,6 @@ fronted t l' l =
 pasted-front : (n : ℕ) (ys l rest : List ℕ) → length ys ≡ n → take n (pasted 0 ys l ++ rest) ≡ ys
 unfolding pasted
 pasted-front n ys l rest e = ap (take n) (append-assoc ys (drop (0 + length ys) l) rest) ∙ take-at ys (drop (0 + length ys) l ++ rest) n e
-
-settings-again : (s : List ℕ) → settingNumbers (settingsFrom (valuesAt 4 4 s 4)) ≡ valuesAt 4 4 s 4
-unfolding table
-settings-again s = refl
 
 tally-is : (t : Tally) (p e f : ℕ) → p ≡ t .poses → e ≡ t .edges → f ≡ t .fixed → record { poses = p; edges = e; fixed = f } ≡ t
 tally-is t p e f x y z = rw (x, y, z)
@@ -136,7 +123,7 @@ module _ (room : Tally) (l : Space) (b : Blank room l) where
           let set = read-settings room s had j (found .1) .0 in
           let at = found .3 in
           job-is j _ _ _ _ _
-          (ap settingNumbers (found .2 ∙ ap settingsFrom set) ∙ settings-again s ∙ sym set)
+          (ap settingNumbers (found .2 ∙ ap settingsFrom set) ∙ settings-back s ∙ sym set)
           (ap (λ (y : Space). take (12 * had .poses) (y .poses ++ drop (12 * room .poses) (l .poses))) at ∙ pasted-front _ (j .poses) _ _ (n .0))
           (ap (λ (y : Space). take (2 * had .edges) (y .ends ++ drop (2 * room .edges) (l .ends))) at ∙ pasted-front _ (j .ends) _ _ (n .1))
           (ap (λ (y : Space). take (8 * had .edges) (y .edges ++ drop (8 * room .edges) (l .edges))) at ∙ pasted-front _ (j .edges) _ _ (n .2))
