@@ -3,16 +3,15 @@
 use Prim.Native.Nat.{ℕ, _+_, _*_, _≤_}
 use native.Mathlib.Omega.{arith}
 use native.Mathlib.Nat.{mul-le-mul-left}
-use mathlib.Core.Path.{_≡_, refl, sym, ap, _∙_}
+use mathlib.Core.Path.{_≡_, sym, ap, _∙_}
 use mathlib.Core.List.{List, _++_, append-assoc}
 use lib.ListN.{length, take, drop}
 use lib.Seq.{length-take-le, take-at}
 use lib.Ieee.{binary64}
-use Rattle.numbers.specs.Walks.{table}
 use Rattle.numbers.specs.declared.Refusal.{Refusal}
 use Rattle.sparse_pgo.specs.declared.Joined.{Joined}
 use Rattle.sparse_pgo.specs.declared.Answer.the-variants as answer
-use Rattle.job.specs.Bytes.{valuesAt, pasted}
+use Rattle.job.specs.Bytes.{pasted}
 use Rattle.job.specs.Format.{Job, Space, space, roomIn, filled, Reading, taken, refused, reading}
 use Rattle.job.specs.Format.{settingsFrom, settingNumbers, given, readInto, jobOf, writtenInto}
 use Rattle.job.specs.declared.Tally.{Tally}
