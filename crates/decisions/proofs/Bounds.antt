@@ -83,7 +83,7 @@ module _ (limit : ℕ) (first : Float) (s : State) (h : Live limit first s) wher
       at false f = h .tight f
 
   -- no count is near the largest u32
-  more-accepted : oneMore (s .accepted) ≡ s .accepted + 1
+  pub more-accepted : oneMore (s .accepted) ≡ s .accepted + 1
   more-accepted = one-more (s .accepted) (omega (arith, h .limited, h .trials))
 
   more-rejected : oneMore (s .rejected) ≡ s .rejected + 1

@@ -91,7 +91,7 @@ module _ {X : Type 0} (m : Numerics X) (limit : ℕ) (tolerance : Float) where
   play-over (suc k) s e x = play-over k s e x
 
   -- ---- the bounds
-  next-keeps : (first : Float) (n : Next) (x : X) → Kept limit first n → Kept limit first (nextOf m limit tolerance n x)
+  pub next-keeps : (first : Float) (n : Next) (x : X) → Kept limit first n → Kept limit first (nextOf m limit tolerance n x)
   unfolding nextOf
   next-keeps first (next.On s) x h = turn-keeps limit tolerance first s (m .assemble x) (m .attempt x (s .damping)) h
   next-keeps first (next.Over s e) x h = h

@@ -1,1 +1,3 @@
+pub mod FloatLaws
+pub mod FloatSamples
 pub mod Lines

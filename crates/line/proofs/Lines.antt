@@ -136,6 +136,23 @@ decimal-length (suc k) n = go (ltb n 10) (decimal-length k (n / 10))
     go true h = omega arith
     go false h = let q = length-append (decimalOf k (n / 10)) ((48 + n % 10) ∷ []) in omega arith
 
+-- a number below 10^j has at most j digits
+pub decimal-few : (k j n : ℕ) → 0 < j → n < 10 ^ j → length (decimalOf k n) ≤ j
+unfolding if-then
+decimal-few zero j n p h = omega arith
+decimal-few (suc k) zero n p h = absurd (omega arith)
+decimal-few (suc k) (suc zero) n p h =
+    let a = pow-suc 10 0 in
+    rw (lt-ltb n 10 (omega arith)) (omega arith)
+decimal-few (suc k) (suc (suc j)) n p h =
+    let a = pow-suc 10 (suc j) in
+    go (ltb n 10) (decimal-few k (suc j) (n / 10) (omega arith) (omega arith))
+  where
+    go : (b : Bool) → length (decimalOf k (n / 10)) ≤ suc j
+        → length (if-then b ((48 + n) ∷ []) (decimalOf k (n / 10) ++ ((48 + n % 10) ∷ []))) ≤ suc (suc j)
+    go true q = omega arith
+    go false q = let r = length-append (decimalOf k (n / 10)) ((48 + n % 10) ∷ []) in omega arith
+
 -- so both lines of a run are shown whole
 pub ran-shown : (poses edges iterations : ℕ) (converged : Bool)
     → shown (lineOf (ranText poses edges iterations converged)) ≡ ranText poses edges iterations converged

@@ -1,5 +1,8 @@
-// What programs say, as lines by value: texts, numbers in decimal, and the two lines of a job's run (document 02, Wish 1).
+// What programs say, as lines by value: texts, numbers in decimal, floats with six digits, and the lines of a job's run (document 02, Wishes 1 and 2).
 ghost use mathlib.Core.Path.{_≡_};
+ghost use Prim.Native.Nat.{_+_, _%_, _<_, _≤_};
+ghost use Rattle.line.specs.FloatText.{raised, lowered, repeated, scaledOf, wholePart, sixOf, digitsText};
+ghost use Rattle.line.specs.FloatText.{pointed, plainText, powerText, sixText, sizeText, floatText};
 ghost use Rattle.line.specs.Text.{decimal, ranText, refusedText, unreadableText, unwrittenText, yesNo, empty as Text·empty, withByte, withText, lineOf};
 
 // The first `used` bytes are the text.
@@ -52,6 +55,205 @@ pub fn with_decimal(l: Line, n: u64) -> Line
     let k = io::decimal(n, &mut digits);
     with_text(l, &digits[..k])
 }
+
+// ---- floats
+
+// Stands for value × 10^(tens − 405).
+pub struct Scaled {
+    pub value: f64,
+    pub tens: usize,
+}
+
+// Stands for d.ddddd × 10^(tens − 400), the digits as one number.
+pub struct SixDigits {
+    pub digits: u64,
+    pub tens: usize,
+}
+
+const UNIT_PLACE: usize = 400;
+
+fn raise(s: Scaled) -> Scaled
+    requires { ⌜ 0 < s .tens ⌝ }
+    ensures { λ r. ⌜ (r ≡ raised s) × (s .tens ≤ r .tens + 1) × (r .tens ≤ s .tens) ⌝ }
+{
+    if s.value < 100000.0 {
+        return Scaled {
+            value: s.value * 10.0,
+            tens: s.tens - 1,
+        };
+    }
+    s
+}
+
+fn lower(s: Scaled) -> Scaled
+    requires { ⌜ s .tens < 1000 ⌝ }
+    ensures { λ r. ⌜ (r ≡ lowered s) × (r .tens ≤ s .tens + 1) ⌝ }
+{
+    if s.value < 1000000.0 {
+        return s;
+    }
+    Scaled {
+        value: s.value / 10.0,
+        tens: s.tens + 1,
+    }
+}
+
+fn raise_all(s: Scaled) -> Scaled
+    requires { ⌜ s .tens ≡ 405 ⌝ }
+    ensures { λ r. ⌜ (r ≡ repeated raised 400 s) × (r .tens ≤ 405) ⌝ }
+{
+    let mut t = s;
+    for _i in 0..400usize {
+        t = raise(t);
+    }
+    t
+}
+
+fn lower_all(s: Scaled) -> Scaled
+    requires { ⌜ s .tens ≤ 405 ⌝ }
+    ensures { λ r. ⌜ (r ≡ repeated lowered 400 s) × (r .tens ≤ 805) ⌝ }
+{
+    let mut t = s;
+    for _i in 0..400usize {
+        t = lower(t);
+    }
+    t
+}
+
+fn by_tens(x: f64) -> Scaled
+    ensures { λ r. ⌜ (r ≡ scaledOf x) × (r .tens ≤ 805) ⌝ }
+{
+    lower_all(raise_all(Scaled {
+        value: x,
+        tens: UNIT_PLACE + 5,
+    }))
+}
+
+fn whole_part(v: f64) -> u64
+    ensures { λ r. ⌜ r ≡ wholePart v ⌝ }
+{
+    if 0.0 < v {
+        if v < 10000000.0 {
+            return std::num::truncating_f64_to_u64(v);
+        }
+        return 0;
+    }
+    0
+}
+
+fn six_of(s: Scaled) -> SixDigits
+    requires { ⌜ s .tens ≤ 805 ⌝ }
+    ensures { λ r. ⌜ (r ≡ sixOf s) × (r .tens ≤ 806) ⌝ }
+{
+    let whole = whole_part(s.value + 0.5);
+    if whole < 1000000 {
+        return SixDigits {
+            digits: whole,
+            tens: s.tens,
+        };
+    }
+    SixDigits {
+        digits: 100000,
+        tens: s.tens + 1,
+    }
+}
+
+fn digit(n: u64) -> u8
+    ensures { λ r. ⌜ r ≡ 48 + n % 10 ⌝ }
+{
+    (48 + n % 10) as u8
+}
+
+fn digits_text(n: u64) -> [u8; 6]
+    ensures { λ r. ⌜ r ≡ digitsText n ⌝ }
+{
+    [
+        digit(n / 100000),
+        digit(n / 10000),
+        digit(n / 1000),
+        digit(n / 100),
+        digit(n / 10),
+        digit(n),
+    ]
+}
+
+// A point behind the first k digits.
+fn with_point(l: Line, n: u64, k: usize) -> Line
+    requires { ⌜ k ≤ 6 ⌝ }
+    ensures { λ r. ⌜ r ≡ withText l (pointed n k) ⌝ }
+{
+    let digits = digits_text(n);
+    let l = with_text(with_text(l, &digits[..k]), b".");
+    with_text(l, &digits[k..])
+}
+
+fn with_plain(l: Line, d: SixDigits) -> Line
+    requires { ⌜ (396 ≤ d .tens) × (d .tens ≤ 405) ⌝ }
+    ensures { λ r. ⌜ r ≡ withText l (plainText d) ⌝ }
+{
+    let tens = d.tens;
+    let digits = digits_text(d.digits);
+    if tens < UNIT_PLACE {
+        let zeros = [48u8; 3];
+        let k = UNIT_PLACE - 1 - tens;
+        let l = with_text(with_text(l, b"0."), &zeros[..k]);
+        return with_text(l, &digits);
+    }
+    if tens == UNIT_PLACE + 5 {
+        return with_text(l, &digits);
+    }
+    with_point(l, d.digits, tens - UNIT_PLACE + 1)
+}
+
+fn with_power(l: Line, d: SixDigits) -> Line
+    requires { ⌜ d .tens ≤ 806 ⌝ }
+    ensures { λ r. ⌜ r ≡ withText l (powerText d) ⌝ }
+{
+    let tens = d.tens;
+    let l = with_point(l, d.digits, 1);
+    if tens < UNIT_PLACE {
+        return with_decimal(with_text(l, b"e-"), (UNIT_PLACE - tens) as u64);
+    }
+    with_decimal(with_text(l, b"e+"), (tens - UNIT_PLACE) as u64)
+}
+
+fn with_six(l: Line, d: SixDigits) -> Line
+    requires { ⌜ d .tens ≤ 806 ⌝ }
+    ensures { λ r. ⌜ r ≡ withText l (sixText d) ⌝ }
+{
+    let tens = d.tens;
+    if (tens < UNIT_PLACE - 4) | (UNIT_PLACE + 5 < tens) {
+        return with_power(l, d);
+    }
+    with_plain(l, d)
+}
+
+fn with_size(l: Line, x: f64) -> Line
+    ensures { λ r. ⌜ r ≡ withText l (sizeText x) ⌝ }
+{
+    if x == 0.0 {
+        return with_text(l, b"0");
+    }
+    if x < 1.0 / 0.0 {
+        return with_six(l, six_of(by_tens(x)));
+    }
+    with_text(l, b"inf")
+}
+
+// Six significant digits.
+pub fn with_float(l: Line, x: f64) -> Line
+    ensures { λ r. ⌜ r ≡ withText l (floatText x) ⌝ }
+{
+    if x != x {
+        return with_text(l, b"nan");
+    }
+    if 0x8000_0000_0000_0000 <= f64::to_bits(x) {
+        return with_size(with_text(l, b"-"), -x);
+    }
+    with_size(l, x)
+}
+
+// ---- lines
 
 fn with_yes_or_no(l: Line, yes: bool) -> Line
     ensures { λ r. ⌜ r ≡ withText l (yesNo yes) ⌝ }

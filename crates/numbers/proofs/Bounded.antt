@@ -1,4 +1,5 @@
--- How large rounded sums, squares and roots can be, over the format. So the norm of up to 384 finite f32s is finite, and so is a finite f32 plus a damping of at most 1e10. Assumes nothing.
+-- How large rounded sums, squares and roots can be, over the format. So the norm of up to 384 finite f32s is finite,
+-- and so is a finite f32 plus a damping of at most 1e10, and half of a sum of squares. Assumes nothing.
 use mathlib.Core.Path.{_≡_, sym, ap, _∙_, subst}
 use mathlib.Core.Bool.{Bool, true, false, not, _&&_, Bool·beq, cond, true≢false}
 use Prim.Native.Nat.{ℕ, zero, suc, _+_, _-_, _*_, _/_, _%_, _^_, _≤_, _<_, zero-le}
@@ -23,7 +24,7 @@ use Rattle.numbers.proofs.Rooting.{square-lt, square-pow}
 use Rattle.numbers.proofs.Believe.{root-is-nearest}
 
 -- x is finite, has no minus sign, and is n or less
-data AtMost : ℕ → Float → Type 0 where
+pub data AtMost : ℕ → Float → Type 0 where
   upto : {n m : ℕ} {e : ℤ} → m * up e ≤ n * down e → AtMost n (fin false m e)
 
 of-value : (x : Float) (n g c : ℕ) → 0 < c → g ≤ n * c → HasValue x false g c → AtMost n x
@@ -42,6 +43,9 @@ overflow-is f = mul-comm (2 ^ suc (emax f)) (2 ^ low f) ∙ sym (pow-add 2 (low 
 
 split : (q j k : ℕ) → k ≤ j → q * 2 ^ (j - k) * 2 ^ k ≡ q * 2 ^ j
 split q j k l = mul-assoc q (2 ^ (j - k)) (2 ^ k) ∙ ap (λ (x : ℕ). q * x) (sym (pow-add 2 (j - k) k) ∙ ap (λ (x : ℕ). 2 ^ x) (back j k l))
+
+pub finite-at-most : {n : ℕ} {x : Float} → AtMost n x → T (finite x)
+finite-at-most (upto h) = tt
 
 -- ---- what is at or below a value of the format, q * 2 ^ j with q of no more digits than the format keeps, rounds to no more than that
 closest-le : (n u r : ℕ) → 0 < u → n ≤ r * u → closest n u ≤ r
@@ -74,24 +78,34 @@ cross a b n m d g h k =
     let y : b * d ≤ m * g * d = mul-le-mul-right d k in
     omega arith
 
-add-at-most : (f : Format) (n m q j : ℕ) (x y : Float) → q < 2 ^ prec f → q * 2 ^ j < 2 ^ suc (emax f) → n + m ≤ q * 2 ^ j → AtMost n x → AtMost m y → AtMost (q * 2 ^ j) (add f x y)
+pub add-at-most : (f : Format) (n m q j : ℕ) (x y : Float) → q < 2 ^ prec f → q * 2 ^ j < 2 ^ suc (emax f) → n + m ≤ q * 2 ^ j → AtMost n x → AtMost m y → AtMost (q * 2 ^ j) (add f x y)
 unfolding add
 add-at-most f n m q j x y Q R l (upto {m = a} {e} h) (upto {m = b} {e = g} k) =
     round-at-most f (a * up e * down g + b * up g * down e) (down e * down g) q j (mul-pos (down-pos e) (down-pos g)) Q R
     (le-trans (cross (a * up e) (b * up g) n m (down e) (down g) h k) (mul-le-mul-right (down e * down g) l))
 
-zero-at-most : (f : Format) (n : ℕ) → AtMost n (ofBits f 0)
+pub zero-at-most : (f : Format) (n : ℕ) → AtMost n (ofBits f 0)
 unfolding ofBits
 zero-at-most binary32 n = upto zero-le
 zero-at-most binary64 n = upto zero-le
 
-sum-at-most : (f : Format) (v : ℕ → Float) (n j : ℕ) → n < 2 ^ prec f → n * 2 ^ j < 2 ^ suc (emax f) → ((i : ℕ) → i < n → AtMost (2 ^ j) (v i)) → AtMost (n * 2 ^ j) (sumOf f v n)
+pub sum-at-most : (f : Format) (v : ℕ → Float) (n j : ℕ) → n < 2 ^ prec f → n * 2 ^ j < 2 ^ suc (emax f) → ((i : ℕ) → i < n → AtMost (2 ^ j) (v i)) → AtMost (n * 2 ^ j) (sumOf f v n)
 unfolding sumOf
 sum-at-most f v zero j Q R h = zero-at-most f (0 * 2 ^ j)
 sum-at-most f v (suc n) j Q R h =
     add-at-most f (n * 2 ^ j) (2 ^ j) (suc n) j (sumOf f v n) (v n) Q R (le-of-eq (sym (suc-mul n (2 ^ j))))
     (sum-at-most f v n j (le-trans (le-suc (suc n)) Q) (lt-of-le-of-lt (mul-le-mul-right (2 ^ j) (le-suc n)) R) (λ i l. h i (le-trans l (le-suc n))))
     (h n (le-refl (suc n)))
+
+-- ---- a larger bound; half of a value
+pub at-most-more : {n : ℕ} {x : Float} (m : ℕ) → n ≤ m → AtMost n x → AtMost m x
+at-most-more m l (upto {e} h) = upto (le-trans h (mul-le-mul-right (down e) l))
+
+pub half-finite : (q j : ℕ) (x : Float) → q < 2 ^ 53 → q * 2 ^ j < 2 ^ 1024 → AtMost (q * 2 ^ j) x → finite (ratio 1 2 ⊗ x) ≡ true
+unfolding ratio mul
+half-finite q j x Q R (upto {m} {e} h) =
+    is-true (finite (round binary64 false (1 * 1 * (m * up e)) (2 * down e)))
+    (finite-at-most (round-at-most binary64 (1 * 1 * (m * up e)) (2 * down e) q j (mul-pos (zero-lt-suc 1) (down-pos e)) Q R (omega arith)))
 
 -- ---- roots
 root-le : (w k l a c m : ℕ) → 0 < c → w * w * (c * (k * k)) ≤ 4 * (a * (l * l)) → a ≤ m * m * c → w * k ≤ 2 * m * l
@@ -180,7 +194,7 @@ of-size m e h =
     round-at-most binary64 (m * up e * (m * up e)) (down e * down e) 1 256 (mul-pos (down-pos e) (down-pos e)) (lit< tt) (lit< tt)
     (le-trans (mul-le-mul h h) (le-trans (le-of-eq (mul-mul-mul-comm (largest binary32) (down e) (largest binary32) (down e))) (mul-le-mul-right (down e * down e) (lit≤ tt))))
 
-square : (x : Float) → finite x ≡ true → T (fits binary32 x) → AtMost (2 ^ 256) (x ⊗ x)
+pub square : (x : Float) → finite x ≡ true → T (fits binary32 x) → AtMost (2 ^ 256) (x ⊗ x)
 unfolding mul
 square nan h t = absurd (true≢false (sym h))
 square (inf s) h t = absurd (true≢false (sym h))

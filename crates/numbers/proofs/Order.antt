@@ -1,12 +1,14 @@
--- The order of the values that have no minus sign, zero and infinity included; and `lt` goes on through a middle value, whatever the signs. Assumes nothing.
+-- The order of the values that have no minus sign, zero and infinity included; and whatever the signs, `lt` goes on through a middle value, and what lies
+-- below a value lies below or above any number between. Assumes nothing.
 use mathlib.Core.Path.{_≡_, refl, sym, subst}
 use mathlib.Core.Logic.{_⊎_, inl, inr}
-use mathlib.Core.Bool.{Bool, true, false, not, _&&_, _||_, cond}
+use mathlib.Core.Bool.{Bool, true, false, not, _&&_, _||_, cond, true≢false}
 use Prim.Native.Nat.{ℕ, zero, suc, _+_, _*_, _^_, _≤_, _<_, zero-le}
-use native.Mathlib.Nat.{le-of-eq, le-of-lt, lt-of-le-of-lt, lt-of-lt-of-le, mul-right-comm, mul-le-mul-right, mul-lt-mul-of-pos-right, lt-of-mul-lt-mul-right, mul-pos}
+use native.Mathlib.Nat.{le-trans, le-of-eq, le-of-lt, lt-of-le-of-lt, lt-of-lt-of-le, mul-right-comm, mul-le-mul-right, mul-lt-mul-of-pos-right, lt-of-mul-lt-mul-right, mul-pos, zero-lt-suc}
 use native.Mathlib.Omega.{arith}
+use borrow.Author.Tests.{ltb-false}
 use lib.Dec.{T, ltb, eqb, eqb→eq, ltb→lt, lt→ltb, nltb→le}
-use lib.Ieee.{Float, nan, inf, fin, Format, prec, emax, low, up, down, odd, units, round, lt, eq, le}
+use lib.Ieee.{Float, nan, inf, fin, Format, prec, emax, low, up, down, odd, units, round, lt, eq, le, isNan}
 use lib.Ieee.Fits.{down-pos, and-i, and-l, and-r, round-is}
 use lib.Ieee.Order.{le-of-values}
 use lib.Ieee.Positive.{num, den, through, first-pos}
@@ -185,3 +187,88 @@ lt-through (fin true m e) (fin true n d) (fin false o g) h k =
 lt-through (fin true m e) (fin true n d) (fin true o g) h k =
     lt→ltb (o * up g * down e) (m * up e * down g)
     (strictly (o * up g) (n * up d) (m * up e) (down g) (down d) (down e) (down-pos g) (ltb→lt (o * up g * down d) (n * up d * down g) k) (ltb→lt (n * up d * down e) (m * up e * down d) h))
+
+-- ---- of a value below z and a number y: the value is below y, or y is below z
+
+-- y / q ≤ x / p < z / r
+at-or-below : (x y z p q r : ℕ) → 0 < q → y * p ≤ x * q → x * r < z * p → y * r < z * q
+at-or-below x y z p q r Q h k =
+    lt-of-mul-lt-mul-right p
+    (lt-of-le-of-lt (le-of-eq (mul-right-comm y r p))
+    (lt-of-le-of-lt (mul-le-mul-right r h)
+    (lt-of-le-of-lt (le-of-eq (mul-right-comm x q r))
+    (lt-of-lt-of-le (mul-lt-mul-of-pos-right k Q) (le-of-eq (mul-right-comm z p q))))))
+
+-- z / r < x / p ≤ y / q
+at-or-above : (x y z p q r : ℕ) → 0 < q → x * q ≤ y * p → z * p < x * r → z * q < y * r
+at-or-above x y z p q r Q h k =
+    lt-of-mul-lt-mul-right p
+    (lt-of-le-of-lt (le-of-eq (mul-right-comm z q p))
+    (lt-of-lt-of-le (mul-lt-mul-of-pos-right k Q)
+    (le-trans (le-of-eq (mul-right-comm x r q)) (le-trans (mul-le-mul-right r h) (le-of-eq (mul-right-comm y p r))))))
+
+-- - x / p is not below y / q, so both are zero
+both-zero : (x y z p q r : ℕ) → 0 < p → 0 < q → x * q + y * p ≤ 0 → 0 < x * r + z * p → y * r < z * q
+both-zero zero zero z p q r P Q a h = let k : 0 < z * p = omega arith in let l : 0 < z * q = mul-pos (first-pos z p k) Q in omega arith
+both-zero zero (suc y) z p q r P Q a h = let k : 0 < suc y * p = mul-pos (zero-lt-suc y) P in absurd (omega arith)
+both-zero (suc x) y z p q r P Q a h = let k : 0 < suc x * q = mul-pos (zero-lt-suc x) Q in absurd (omega arith)
+
+not-both : (x y p q : ℕ) → 0 < q → x * q + y * p ≤ 0 → 0 < x → ⊥
+not-both x y p q Q a h = let k : 0 < x * q = mul-pos h Q in omega arith
+
+-- - y / q is at or below - x / p, and that below z / r
+one-not-zero : (x y z p q r : ℕ) → 0 < q → 0 < r → x * q ≤ y * p → 0 < x * r + z * p → 0 < y * r + z * q
+one-not-zero x y (suc z) p q r Q R a h = right-pos (y * r) (suc z * q) (mul-pos (zero-lt-suc z) Q)
+one-not-zero x y zero p q r Q R a h =
+    let k : 0 < x * r = omega arith in
+    left-pos (y * r) (0 * q) (mul-pos (first-pos y p (lt-of-lt-of-le (mul-pos (first-pos x r k) Q) a)) R)
+
+pub lt-either : (x y z : Float) → T (not (isNan y)) → T (lt x z) → lt x y ≡ false → T (lt y z)
+unfolding lt isNan
+lt-either x nan z n h e = absurd n
+lt-either nan (inf t) z n h e = absurd h
+lt-either nan (fin t k d) z n h e = absurd h
+lt-either (inf s) (inf t) nan n h e = absurd h
+lt-either (inf false) (inf t) (inf u) n h e = absurd h
+lt-either (inf false) (inf t) (fin u o g) n h e = absurd h
+lt-either (inf true) (inf true) (inf u) n h e = h
+lt-either (inf true) (inf true) (fin u o g) n h e = tt
+lt-either (inf true) (inf false) (inf u) n h e = absurd (true≢false e)
+lt-either (inf true) (inf false) (fin u o g) n h e = absurd (true≢false e)
+lt-either (inf s) (fin t k d) nan n h e = absurd h
+lt-either (inf true) (fin t k d) (inf u) n h e = absurd (true≢false e)
+lt-either (inf true) (fin t k d) (fin u o g) n h e = absurd (true≢false e)
+lt-either (inf false) (fin t k d) (inf u) n h e = absurd h
+lt-either (inf false) (fin t k d) (fin u o g) n h e = absurd h
+lt-either (fin s m i) (inf t) nan n h e = absurd h
+lt-either (fin s m i) (inf true) (inf u) n h e = h
+lt-either (fin s m i) (inf true) (fin u o g) n h e = tt
+lt-either (fin s m i) (inf false) (inf u) n h e = absurd (true≢false e)
+lt-either (fin s m i) (inf false) (fin u o g) n h e = absurd (true≢false e)
+lt-either (fin s m i) (fin t k d) nan n h e = absurd h
+lt-either (fin s m i) (fin t k d) (inf u) n h e = h
+lt-either (fin false m i) (fin false k d) (fin false o g) n h e =
+    lt→ltb (k * up d * down g) (o * up g * down d)
+    (at-or-below (m * up i) (k * up d) (o * up g) (down i) (down d) (down g) (down-pos d)
+    (ltb-false (m * up i * down d) (k * up d * down i) e) (ltb→lt (m * up i * down g) (o * up g * down i) h))
+lt-either (fin false m i) (fin t k d) (fin true o g) n h e = absurd h
+lt-either (fin false m i) (fin true k d) (fin false o g) n h e =
+    lt→ltb 0 (k * up d * down g + o * up g * down d)
+    (right-pos (k * up d * down g) (o * up g * down d)
+    (mul-pos (pos-left (o * up g) (down i) (m * up i * down g) (ltb→lt (m * up i * down g) (o * up g * down i) h)) (down-pos d)))
+lt-either (fin true m i) (fin false k d) (fin false o g) n h e =
+    lt→ltb (k * up d * down g) (o * up g * down d)
+    (both-zero (m * up i) (k * up d) (o * up g) (down i) (down d) (down g) (down-pos i) (down-pos d)
+    (ltb-false 0 (m * up i * down d + k * up d * down i) e) (ltb→lt 0 (m * up i * down g + o * up g * down i) h))
+lt-either (fin true m i) (fin false k d) (fin true o g) n h e =
+    absurd
+    (not-both (m * up i) (k * up d) (down i) (down d) (down-pos d) (ltb-false 0 (m * up i * down d + k * up d * down i) e)
+    (pos-left (m * up i) (down g) (o * up g * down i) (ltb→lt (o * up g * down i) (m * up i * down g) h)))
+lt-either (fin true m i) (fin true k d) (fin false o g) n h e =
+    lt→ltb 0 (k * up d * down g + o * up g * down d)
+    (one-not-zero (m * up i) (k * up d) (o * up g) (down i) (down d) (down g) (down-pos d) (down-pos g)
+    (ltb-false (k * up d * down i) (m * up i * down d) e) (ltb→lt 0 (m * up i * down g + o * up g * down i) h))
+lt-either (fin true m i) (fin true k d) (fin true o g) n h e =
+    lt→ltb (o * up g * down d) (k * up d * down g)
+    (at-or-above (m * up i) (k * up d) (o * up g) (down i) (down d) (down g) (down-pos d)
+    (ltb-false (k * up d * down i) (m * up i * down d) e) (ltb→lt (o * up g * down i) (m * up i * down g) h))

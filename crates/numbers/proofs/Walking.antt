@@ -1,5 +1,5 @@
 -- One more term of a sum, one more turn of a row of steps, one more test: the laws by which a loop meets a walk. Assumes nothing.
-use mathlib.Core.Path.{_≡_, refl, ap, ap₂, sym, _∙_}
+use mathlib.Core.Path.{_≡_, refl, ap, ap₂, sym, subst, _∙_}
 use mathlib.Core.Bool.{Bool, true, false, cond, _&&_, _||_, or-true, and-false}
 use mathlib.Core.Logic.{⊎-elim}
 use Prim.Native.Nat.{ℕ, zero, suc, _+_, _-_, _<_, _≤_}
@@ -7,7 +7,9 @@ use native.Mathlib.Numerals.{add-one}
 use native.Mathlib.Omega.{arith}
 use native.Mathlib.Nat.{zero-add, add-zero, suc-add, add-suc, le-add-right, eq-or-lt-of-le, le-of-suc-le-suc, not-suc-le-zero}
 use native.Mathlib.Decide.{le-ind}
+use lib.Dec.{ltb}
 use lib.Ieee.{Float, Format, add}
+use borrow.Author.Tests.{ltb-true, ltb-false}
 use Rattle.numbers.specs.declared.Failure.{Failure}
 use Rattle.numbers.specs.declared.Went.{Went}
 use Rattle.numbers.specs.declared.Went.the-variants.{Well, Bad}
@@ -186,6 +188,24 @@ each-ext {S} f g (suc n) s h = rw (each-ext f g n s (λ k l. h k (omega arith)))
     go : (e : Ended S) → next e n f ≡ next e n g
     go (done s) = ap (turn n) (h n (omega arith) s)
     go (stopped k why s) = refl
+
+-- every step of a row that went well went well, from somewhere
+pub each-went : {S : Type 0} (f : ℕ → S → Went × S) (n : ℕ) (s t : S) → each f n s ≡ done t → (k : ℕ) → k < n → (u : S) × (f k u .0 ≡ Well)
+unfolding each
+each-went {S} f zero s t e k h = absurd (omega arith)
+each-went {S} f (suc n) s t e k h = go (each f n s) (λ v q l. each-went f n s v q k l) refl e
+  where
+    last : (u : S) (x : Went × S) → f n u ≡ x → turn n x ≡ done t → f n u .0 ≡ Well
+    last u (Well, v) q r = rw q
+    last u (Bad why, v) q r = let z : _≡_ {A = ℕ} 0 1 = cc in absurd (omega arith)
+
+    go : (x : Ended S) → ((v : S) → each f n s ≡ done v → k < n → (u : S) × (f k u .0 ≡ Well)) → each f n s ≡ x → next x n f ≡ done t → (u : S) × (f k u .0 ≡ Well)
+    go (stopped j why v) ih q r = let z : _≡_ {A = ℕ} 0 1 = cc in absurd (omega arith)
+    go (done v) ih q r = pick (ltb k n) refl
+      where
+        pick : (b : Bool) → ltb k n ≡ b → (u : S) × (f k u .0 ≡ Well)
+        pick true l = ih v q (ltb-true k n l)
+        pick false l = let o = ltb-false k n l in let z : n ≡ k = omega arith in (v, subst (λ (i : ℕ). f i v .0 ≡ Well) z (last v (f n v) refl r))
 
 -- ---- a step, and the next
 module _ {S : Type 0} (x : Went × S) (k : S → Went × S) where

@@ -3,3 +3,4 @@ pub mod Costing
 pub mod Depends
 pub mod Linking
 pub mod Stowing
+pub mod HadCost

@@ -1,5 +1,5 @@
 -- The weighted relative residual of an edge: document 01, "Graph, residual, assembly". Definitions only.
-use mathlib.Core.Bool.{Bool, _&&_}
+use mathlib.Core.Bool.{Bool, true, false, _&&_}
 use mathlib.Core.List.{List, [], _∷_}
 use lib.Ieee.{Float}
 use lib.Ieee.Scale.{finite}
@@ -46,6 +46,11 @@ residualOf a b e =
     (λ ta. sixIfFinite (weighted e.weight (logWide (errorOf ta tb m))))
     Failed) Failed) Failed)
     (Failed Numerical)
+
+-- whether it could be had
+abbrev pub hasResidual : Residual → Bool
+hasResidual (Six d) = true
+hasResidual (Failed why) = false
 
 -- the six numbers in order
 abbrev pub sixOf : Twist → List Float

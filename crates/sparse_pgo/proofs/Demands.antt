@@ -1,23 +1,27 @@
 -- Demands 1 and 3 of the public promise, for every input; and that a promise that is an equation leaves one answer. Assumes nothing.
 use mathlib.Core.Path.{_≡_, refl, sym, ap, _∙_}
 use mathlib.Core.Bool.{Bool, true, false}
-use mathlib.Core.List.{List}
+use mathlib.Core.List.{List, []}
 use Prim.Native.Nat.{ℕ, _+_, _*_, _<_, _≤_}
 use native.Mathlib.Omega.{arith}
+use lib.ListN.{drop}
 use lib.Dec.{T}
 use lib.Ieee.{Float, binary32, lt, fits}
 use Rattle.numbers.specs.Walks.{Ended, done, stopped}
 use Rattle.numbers.specs.Notation.{if-then}
-use Rattle.numbers.specs.Refusals.{refusal}
+use Rattle.numbers.specs.Refusals.{refusal, ask, row, verdict}
+use Rattle.numbers.specs.declared.Verdict.the-variants as verdict
+use Rattle.numbers.proofs.Speaking.{amongRows, row-spoke}
 use Rattle.numbers.specs.declared.Refusal.{Refusal}
 use Rattle.numbers.specs.declared.Failure.the-variants.{Numerical}
 use Rattle.graph.specs.Graph.{freeCount}
 use Rattle.graph.specs.Lent.{Input, graphOf, dofOf}
-use Rattle.graph.specs.Table.{checks}
+use Rattle.graph.specs.Table.{badGravity, rows, countsOf, checks}
 use Rattle.graph.specs.declared.Counts.{Counts}
 use Rattle.graph.specs.declared.Checked.{Checked}
 use Rattle.graph.specs.declared.Checked.the-variants as checked
 use Rattle.graph.specs.declared.Settings.{Settings}
+use Rattle.graph.proofs.Answers.{settle-turned}
 use Rattle.graph.proofs.Passed.{PassedSettings, fit}
 use Rattle.graph.proofs.Row26.{Adrift, refused-26}
 use Rattle.residual.specs.Retraction.{unitOf}
@@ -82,42 +86,42 @@ module _ {X S D : Type 0} (p : Parts X S D) (set : Settings) (ok : PassedSetting
           (played-same (numerics p) (set .limit) (set .«cost_tolerance») c (set .damping) x)
           q
 
--- ---- a run that began is never refused by 26
+-- ---- a run that began is refused by no number above 22
 
-abbrev NotBy26 : Refusal → Type 0
-NotBy26 r = r .number ≡ 26 → ⊥
+abbrev NotBy : ℕ → Refusal → Type 0
+NotBy n r = r .number ≡ n → ⊥
 
-same-number : (q r : Refusal) → q ≡ r → NotBy26 q → NotBy26 r
-same-number q r e f h = f (ap (λ (r : Refusal). r .number) e ∙ h)
+same-number : (n : ℕ) (q r : Refusal) → q ≡ r → NotBy n q → NotBy n r
+same-number n q r e f h = f (ap (λ (r : Refusal). r .number) e ∙ h)
 
-module _ {X S D : Type 0} (p : Parts X S D) where
-  assembly-other : (x : X) → Assembles NotBy26 (numerics p .assemble x)
+module _ {X S D : Type 0} (p : Parts X S D) (n : ℕ) (above : 22 < n) where
+  assembly-other : (x : X) → Assembles (NotBy n) (numerics p .assemble x)
   unfolding numerics if-then
   assembly-other x = go (p .assembled x)
     where
-      flat : (b : Bool) (r : Refusal) → if-then b assembly.Flat assembly.Steep ≡ assembly.Refused r → NotBy26 r
+      flat : (b : Bool) (r : Refusal) → if-then b assembly.Flat assembly.Steep ≡ assembly.Refused r → NotBy n r
       flat true r e h = let z : _≡_ {A = ℕ} 0 1 = cc in omega arith
       flat false r e h = let z : _≡_ {A = ℕ} 0 1 = cc in omega arith
 
-      go : (a : Ended S) → Assembles NotBy26 (assemblyOf p a)
+      go : (a : Ended S) → Assembles (NotBy n) (assemblyOf p a)
       go (done s) r e = flat (p .flat s) r e
-      go (stopped k Numerical s) r e = let d : refusal 21 k ≡ r = cc in same-number _ r d (λ z. omega arith)
+      go (stopped k Numerical s) r e = let d : refusal 21 k ≡ r = cc in same-number n _ r d (λ z. omega arith)
 
-  ended-other : (c : Float) (n : Next) (r : Refusal) → ((s : State) (q : Refusal) → n ≡ next.Over s (end.Refused q) → NotBy26 q)
-      → answerOf c n ≡ answer.Refused r → NotBy26 r
-  ended-other c (next.On s) r f e = let d : refusal 0 0 ≡ r = cc in same-number _ r d (λ z. omega arith)
+  ended-other : (c : Float) (x : Next) (r : Refusal) → ((s : State) (q : Refusal) → x ≡ next.Over s (end.Refused q) → NotBy n q)
+      → answerOf c x ≡ answer.Refused r → NotBy n r
+  ended-other c (next.On s) r f e = let d : refusal 0 0 ≡ r = cc in same-number n _ r d (λ z. omega arith)
   ended-other c (next.Over s (end.Stopped w)) r f e = let z : _≡_ {A = ℕ} 0 1 = cc in absurd (omega arith)
-  ended-other c (next.Over s (end.Refused q)) r f e = let d : q ≡ r = cc in same-number q r d (f s q refl)
+  ended-other c (next.Over s (end.Refused q)) r f e = let d : q ≡ r = cc in same-number n q r d (f s q refl)
 
-  whole-other : (set : Settings) (x : X) (r : Refusal) → whole p set x .answer ≡ answer.Refused r → NotBy26 r
+  whole-other : (set : Settings) (x : X) (r : Refusal) → whole p set x .answer ≡ answer.Refused r → NotBy n r
   unfolding whole
   whole-other set x r = go (p .cost x)
     where
-      go : (e : Ended Float) → wholeFrom p set x e .answer ≡ answer.Refused r → NotBy26 r
-      go (stopped k Numerical c) e = let d : refusal 20 k ≡ r = cc in same-number _ r d (λ z. omega arith)
+      go : (e : Ended Float) → wholeFrom p set x e .answer ≡ answer.Refused r → NotBy n r
+      go (stopped k Numerical c) e = let d : refusal 20 k ≡ r = cc in same-number n _ r d (λ z. omega arith)
       go (done c) e =
           ended-other c _ r
-          (played-refuses NotBy26 (λ z. omega arith) (set .limit) (set .«cost_tolerance») (numerics p) assembly-other c (set .damping) x) e
+          (played-refuses (NotBy n) (λ z. omega arith) (set .limit) (set .«cost_tolerance») (numerics p) assembly-other c (set .damping) x) e
 
 -- ---- of the public promise
 
@@ -142,17 +146,33 @@ module _ (i : Input) (work32 work64 out : List Float) where
     where
       go : (v : Checked) → checks i .answer ≡ v → afterChecks i work32 work64 out v .answer ≡ answer.Refused (refusal 26 x) → Adrift i x
       go (checked.Turned r) h e = let d : r ≡ refusal 26 x = cc in refused-26 i x .0 (h ∙ ap checked.Turned d)
-      go (checked.Fit c) h e = absurd (whole-other (runParts i) (i .settings) (i .poses) (refusal 26 x) e refl)
+      go (checked.Fit c) h e = absurd (whole-other (runParts i) 26 (omega arith) (i .settings) (i .poses) (refusal 26 x) e refl)
+
+  -- no number above 22 that stands not in the table
+  pub never-refused : (r : Refusal) → 22 < r .number → amongRows (r .number) (drop 1 (rows i)) ≡ false → optimized i work32 work64 out .answer ≡ answer.Refused r → ⊥
+  unfolding optimized ran checks
+  never-refused r above other e = go (checks i .answer) refl e
+    where
+      first : (b : Bool) → ask b 1 0 ≡ verdict.Refused r → ⊥
+      first true h = let d : refusal 1 0 ≡ r = cc in let one : 1 ≡ r .number = ap (λ (q : Refusal). q .number) d in omega arith
+      first false h = let z : _≡_ {A = ℕ} 0 1 = cc in omega arith
+
+      go : (v : Checked) → checks i .answer ≡ v → afterChecks i work32 work64 out v .answer ≡ answer.Refused r → ⊥
+      go (checked.Turned q) h d =
+          let same : q ≡ r = cc in
+          let said : verdict (rows i) ≡ verdict.Refused r = settle-turned _ (countsOf i) _ (h ∙ ap checked.Turned same) in
+          first (badGravity (i .manifold)) (row-spoke [] (row 1 (badGravity (i .manifold))) (drop 1 (rows i)) r refl other said .1)
+      go (checked.Fit c) h d = whole-other (runParts i) (r .number) above (i .settings) (i .poses) r d refl
 
   module _ (c : Counts) (e : checks i .answer ≡ checked.Fit c) where
     began : optimized i work32 work64 out ≡ afterChecks i work32 work64 out (checked.Fit c)
     unfolding optimized
     began = ap (afterChecks i work32 work64 out) e
 
-    answered : {a : Answer} → optimized i work32 work64 out .answer ≡ a → ran i .answer ≡ a
+    pub answered : {a : Answer} → optimized i work32 work64 out .answer ≡ a → ran i .answer ≡ a
     answered h = ap (λ (y : After). y .answer) (sym began) ∙ h
 
-    come-out : {a : Answer} → optimized i work32 work64 out .answer ≡ a → optimized i work32 work64 out .out ≡ given out (ran i) a
+    pub come-out : {a : Answer} → optimized i work32 work64 out .answer ≡ a → optimized i work32 work64 out .out ≡ given out (ran i) a
     come-out h = ap (λ (y : After). y .out) began ∙ ap (given out (ran i)) (answered h)
 
     -- rows 20 to 22: the output is as found

@@ -15,3 +15,4 @@ pub mod Border
 pub mod Demands
 pub mod AlwaysFinite
 pub mod WholeAssembly
+pub mod Costed

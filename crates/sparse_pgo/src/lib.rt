@@ -504,7 +504,7 @@ fn begun(
 }
 
 // A run on either manifold: checks, then the run on the needed parts of the work.
-fn run(
+pub fn sparse_pose_graph_optimize(
     manifold: Manifold,
     poses: &[f64],
     ends: &[u32],
@@ -573,7 +573,7 @@ pub fn optimize(
 ) -> Answer
     ensures { λ r. ⌜ record { answer = r; work32 = now (work32 .exit); work64 = now (work64 .exit); out = now (out .exit) } ≡ optimized (lent Manifold.Se3 (now (poses .entry)) (now (ends .entry)) (now (edges .entry)) (now (fixed .entry)) settings record { work32 = length (now (work32 .entry)); work64 = length (now (work64 .entry)); out = length (now (out .entry)) }) (now (work32 .entry)) (now (work64 .entry)) (now (out .entry)) ⌝ }
 {
-    run(
+    sparse_pose_graph_optimize(
         Manifold::Se3,
         poses,
         ends,
@@ -600,7 +600,7 @@ pub fn optimize_with_gravity(
 ) -> Answer
     ensures { λ r. ⌜ record { answer = r; work32 = now (work32 .exit); work64 = now (work64 .exit); out = now (out .exit) } ≡ optimized (lent (Manifold.Gravity gravity) (now (poses .entry)) (now (ends .entry)) (now (edges .entry)) (now (fixed .entry)) settings record { work32 = length (now (work32 .entry)); work64 = length (now (work64 .entry)); out = length (now (out .entry)) }) (now (work32 .entry)) (now (work64 .entry)) (now (out .entry)) ⌝ }
 {
-    run(
+    sparse_pose_graph_optimize(
         Manifold::Gravity(gravity),
         poses,
         ends,

@@ -5,8 +5,8 @@ use denote.Ref.{now}
 use native.Mathlib.Omega.{arith}
 use lib.Seq.{length-take-le}
 use Rattle.sparse_pgo.proofs.Border.{Fitted, fitted, n-most, need-fits, poses-most, single-fits, double-fits, poses-length, lentInput, run-turned, run-lent, run-startable, run-fit}
-use Rattle.sparse_pgo.proofs.run.Statement.{statement}
-use Rattle.sparse_pgo.proofs.run.Tie as tie
+use Rattle.sparse_pgo.proofs.sparse_pose_graph_optimize.Statement.{statement}
+use Rattle.sparse_pgo.proofs.sparse_pose_graph_optimize.Tie as tie
 
 -- what the checks leave known
 known : (c : tie.After-dof)
@@ -92,8 +92,8 @@ returns-2 c =
     run-fit (a .manifold) (now (a .poses)) (now (a .ends)) (now (a .edges)) (now (a .fixed)) (a .settings) (now (a .work32)) (now (a .work64)) (now (a .out)) _ _ _
     (known (c .before .before .before .before .before .before .before .before .before .before .before .before .before .before)) _ (c .before .before .before .before .before .before .before .before .before .before .before .unit-manifold .ensures) _ _ _ _ (c .before .before .before .before .before .before .begun .ensures)
 
-pub run-spec : {M : Type 1} → statement M
-run-spec =
+pub sparse-pose-graph-optimize-spec : {M : Type 1} → statement M
+sparse-pose-graph-optimize-spec =
     tie.close
     (tie.spec
     validate-optimizer-inputs-requires

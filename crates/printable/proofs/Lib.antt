@@ -1,0 +1,4 @@
+pub mod Measuring
+pub mod Costs
+pub mod Judging
+pub mod Slips
