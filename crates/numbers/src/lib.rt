@@ -1,9 +1,10 @@
 // Numbers: f64 to f32, f32 to f64, square roots, each worked out from sign, exponent and fraction bits; finite tests;
-// total reads of lent numbers; and the answers that all crates above share.
+// total reads and copies of lent numbers; and the answers that all crates above share.
 ghost use mathlib.Core.Path.{_≡_};
 ghost use mathlib.Core.Bool.{Bool, false, cond};
-ghost use Prim.Native.Nat.{ℕ, suc, _+_, _-_, _*_, _/_, _%_, _^_, _≤_, _<_};
-ghost use lib.ListN.{getD};
+ghost use mathlib.Core.List.{_++_};
+ghost use Prim.Native.Nat.{ℕ, suc, _+_, _-_, _*_, _/_, _%_, _^_, _≤_, _<_, min};
+ghost use lib.ListN.{getD, length, take, drop};
 ghost use lib.Ieee.{Format, binary32, binary64, prec, emax, low, ones, ofBits, ofFields, nan};
 ghost use lib.Ieee.Nearest.{closest};
 ghost use lib.Ieee.Exact.{HasValue};
@@ -101,6 +102,31 @@ pub fn index_at(xs: &[u32], i: usize) -> usize
     ensures { λ r. ⌜ r ≡ getD (now (xs .entry)) i 0 ⌝ }
 {
     if i < xs.len() { wide(xs[i]) } else { 0 }
+}
+
+// The index before n; of 0 it is 0.
+pub fn index_before(n: usize) -> usize
+    ensures { λ r. ⌜ r ≡ n - 1 ⌝ }
+{
+    if n == 0 { 0 } else { n - 1 }
+}
+
+pub fn smaller_of(a: usize, b: usize) -> usize
+    ensures { λ r. ⌜ r ≡ min a b ⌝ }
+{
+    if a < b { a } else { b }
+}
+
+// As many numbers as both have.
+pub fn copy64(from: &[f64], to: &mut [f64])
+    ensures { λ _. ⌜ now (to .exit) ≡ take (length (now (to .entry))) (now (from .entry)) ++ drop (length (now (from .entry))) (now (to .entry)) ⌝ }
+{
+    let n = smaller_of(to.len(), from.len());
+    let mut i = 0usize;
+    while i < n {
+        to[i] = from[i];
+        i += 1;
+    }
 }
 
 // x at the wider format, which holds every `f32`; a NaN gives a NaN.

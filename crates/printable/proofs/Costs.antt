@@ -2,7 +2,7 @@
 -- Assumes nothing.
 use mathlib.Core.Path.{_≡_, refl, subst}
 use mathlib.Core.Bool.{Bool, true, false, _&&_}
-use Prim.Native.Nat.{ℕ, zero, suc, _+_, _-_, _*_, _^_, _≤_, _<_}
+use Prim.Native.Nat.{ℕ, zero, suc, _+_, _*_, _^_, _≤_, _<_}
 use native.Mathlib.Nat.{le-trans, le-of-eq, le-of-lt, le-suc, le-add-right, lt-of-le-of-lt, mul-le-mul-right}
 use native.Mathlib.Omega.{arith}
 use lib.Dec.{T, lit<, lit≤}
@@ -10,9 +10,8 @@ use lib.ListN.{getD}
 use lib.Ieee.{Float, nan, binary32, binary64, fits}
 use lib.Ieee.Fits.{mul-fits}
 use lib.Ieee.Scale.{finite}
-use Rattle.numbers.specs.Notation.{_⊗_, num, ratio, if-then}
+use Rattle.numbers.specs.Notation.{_⊗_, if-then}
 use Rattle.numbers.specs.Numbers.{root64}
-use Rattle.numbers.specs.declared.Failure.{Failure}
 use Rattle.numbers.specs.declared.Failure.the-variants.{Numerical}
 use Rattle.numbers.proofs.Tests.{and-first, and-second}
 use Rattle.numbers.proofs.Bounded.{AtMost, at-most-more, add-at-most, zero-at-most, sum-at-most, square, half-finite, norm-finite}
@@ -147,4 +146,5 @@ module _ {P : Type 0} (g : Graph P Edge) (pose : ℕ → Pose) where
   pub cost-finite : g .edges ≤ 2 ^ 32 → finite (poseGraphCost g pose) ≡ true
   unfolding poseGraphCost
   cost-finite h =
-      half-finite (g .edges * 6) 256 (squaresUpTo g pose (g .edges)) (below-53 (g .edges) h) (room (g .edges * 6) (below-53 (g .edges) h)) (sum-small (g .edges) h)
+      half-finite (g .edges * 6) 256 (squaresUpTo g pose (g .edges)) (below-53 (g .edges) h) (room (g .edges * 6) (below-53 (g .edges) h))
+      (sum-small (g .edges) h)

@@ -1,5 +1,5 @@
--- What `usable` and `printing` mean, of any edges, poses and numbers: usable holds exactly if every test does; `printing` says yes exactly if it is usable; what
--- it says of gravity is said of every pose; the measures are finite exactly where the last edge has a residual. Assumes nothing.
+-- What `usable` and `printing` mean, of any edges, poses and numbers: usable holds exactly if every test does; `printing` says yes exactly if it is usable;
+-- what it says of gravity is said of every pose; the measures are finite exactly where the last edge has a residual. Assumes nothing.
 use mathlib.Core.Path.{_≡_, refl, sym, ap, subst, _∙_}
 use mathlib.Core.Bool.{Bool, true, false, not, _&&_, true≢false}
 use Prim.Native.Nat.{ℕ, zero, suc, _-_, _^_, _≤_}
@@ -9,7 +9,6 @@ use lib.Ieee.Bits.{is-true}
 use lib.Ieee.Scale.{finite}
 use Rattle.numbers.specs.Notation.{ratio, if-then}
 use Rattle.numbers.specs.Walks.{every}
-use Rattle.numbers.proofs.Tests.{and-first, and-second}
 use Rattle.numbers.proofs.Order.{lt-through, lt-either}
 use Rattle.rotations.specs.declared.Vec3.{Vec3}
 use Rattle.rotations.specs.declared.Pose.{Pose}
@@ -61,8 +60,8 @@ usable-means converged kept m = (so, for)
     so : usable converged kept m ≡ true → Usable converged kept m
     so h =
         let e =
-            all-hold converged (finite (m .«initial_cost»)) (finite (m .«final_cost»)) (finite (m .«new_loop_residual_before»))
-            (finite (m .«new_loop_residual_after»)) kept (costFell m) (lastNoWorse m) h
+        all-hold converged (finite (m .«initial_cost»)) (finite (m .«final_cost»)) (finite (m .«new_loop_residual_before»))
+        (finite (m .«new_loop_residual_after»)) kept (costFell m) (lastNoWorse m) h
         in
         record {
           has-converged = e .0;
@@ -162,11 +161,10 @@ pub printing-yes : (converged : Bool) (iterations limit : ℕ) (cosine : Float) 
     → (printing converged iterations limit cosine m ≡ printable.Yes → usable converged (not (lt cosine leastCosine)) m ≡ true)
     × (usable converged (not (lt cosine leastCosine)) m ≡ true → printing converged iterations limit cosine m ≡ printable.Yes)
 unfolding printing usable if-then
-printing-yes converged iterations limit cosine m =
-    (
-      so converged (finiteMeasures m) (lt cosine leastCosine) (costFell m) (lastNoWorse m),
-      for converged (finiteMeasures m) (lt cosine leastCosine) (costFell m) (lastNoWorse m),
-    )
+printing-yes converged iterations limit cosine m = (
+  so converged (finiteMeasures m) (lt cosine leastCosine) (costFell m) (lastNoWorse m),
+  for converged (finiteMeasures m) (lt cosine leastCosine) (costFell m) (lastNoWorse m),
+)
   where
     so : (c f t l n : Bool) → answer iterations limit cosine m c f t l n ≡ printable.Yes → (c && (f && (not t && (l && n)))) ≡ true
     so false false t l n h = never _ refl h

@@ -1,9 +1,9 @@
 -- How the measures grow by one edge or one pose, and what they are of an edge that has a residual and of one that has none. Assumes nothing.
-use mathlib.Core.Path.{_≡_, refl, ap, _∙_}
+use mathlib.Core.Path.{_≡_, refl}
 use Prim.Native.Nat.{ℕ, _+_}
 use native.Mathlib.Numerals.{add-one}
 use lib.Ieee.{Float, lt, ofBits, binary64}
-use Rattle.numbers.specs.Notation.{ratio, num, if-then}
+use Rattle.numbers.specs.Notation.{ratio, if-then}
 use Rattle.rotations.specs.declared.Vec3.{Vec3}
 use Rattle.rotations.specs.declared.Pose.{Pose}
 use Rattle.graph.specs.Graph.{Graph}

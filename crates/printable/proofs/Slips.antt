@@ -117,7 +117,7 @@ less-is-tipped : printing true 3 30 (ratio 999999994 1000000000) (measures (num 
 unfolding computed
 less-is-tipped = refl
 
--- ---- c. the cost: half of the squares of every edge, also of one between fixed poses; one that has no residual adds nothing. The last edge's residual is its own
+-- ---- c. the cost: half of the squares of every edge, also of one between fixed poses; one that has no residual adds nothing. The last edge's is its own
 
 -- a pose with no turn at (x, 0, 0), one with a turn by a quarter about x, one with a matrix of zeros; and an edge that measured (x, 0, 0)
 abbrev pose : Float → List Float

@@ -1,6 +1,6 @@
 // Whether a joined scan may be printed: the measures and tests of pose_graph.rs, over any edges and any poses (document 02, Wish 2).
 ghost use mathlib.Core.Path.{_≡_};
-ghost use Prim.Native.Nat.{_-_, _/_, _<_, _^_};
+ghost use Prim.Native.Nat.{_/_, _<_, _^_};
 ghost use lib.Ieee.{lt};
 ghost use mathlib.Core.List.{[]};
 ghost use lib.ListN.{length};
@@ -97,17 +97,11 @@ fn residual_norm(r: Residual) -> f64
     }
 }
 
-fn one_less(n: usize) -> usize
-    ensures { λ r. ⌜ r ≡ n - 1 ⌝ }
-{
-    if n == 0 { 0 } else { n - 1 }
-}
-
 // The last edge's; a NaN where it has no residual.
 pub fn last_residual_norm(poses: &[f64], ends: &[u32], edges: &[f32]) -> f64
     ensures { λ r. ⌜ r ≡ lastResidual (lentGraph [] (now (ends .entry)) (now (edges .entry)) []) (poseAt (now (poses .entry))) ⌝ }
 {
-    let k = one_less(ends.len() / 2);
+    let k = numbers::index_before(ends.len() / 2);
     residual_norm(weighted_edge_residual(poses, ends, edges, k))
 }
 

@@ -1,27 +1,20 @@
+-- `printable::add_residual` meets its contract: one that has a residual, and one that has none. Assumes nothing.
 use borrow.Author.Needs.{needs}
 use Rattle.printable.proofs.add_residual.Statement.{statement}
 use Rattle.printable.proofs.add_residual.Tie as tie
-use Rattle.printable.proofs.add_residual.Reads as reads
-use Rattle.printable.proofs.add_residual.Lts as lts
-use Rattle.printable.proofs.residual_squared.Reads as residual-squared-reads
 
--- src/lib.rt:72:23
 enum-known-r : tie.Need-enum-known-r
 enum-known-r c = search needs
 
--- src/lib.rt:72:35
 residual-squared-requires : tie.Need-residual-squared-requires
 residual-squared-requires c κs = search needs
 
--- src/lib.rt:73:32
 enum-told : tie.Need-enum-told
 enum-told c = search needs
 
--- src/lib.rt:68:1
 returns : tie.Need-returns
 returns c = rw (c .residual-squared .ensures, c .before .before .r .given .1)
 
--- src/lib.rt:68:1
 returns-2 : tie.Need-returns-2
 returns-2 c = rw (c .enum-told .given .1)
 

@@ -1,34 +1,24 @@
+-- `printable::gravity_cosine` meets its contract: each step is the definition. Assumes nothing.
 use Rattle.printable.specs.Measures.{gravityCosine}
 use borrow.Author.Needs.{needs}
 use Rattle.printable.proofs.gravity_cosine.Statement.{statement}
 use Rattle.printable.proofs.gravity_cosine.Tie as tie
-use Rattle.printable.proofs.gravity_cosine.Reads as reads
-use Rattle.printable.proofs.gravity_cosine.Lts as lts
-use Rattle.printable.proofs.unit_vec.Reads as unit-vec-reads
-use Rattle.rotations.proofs.dot_of.Reads as dot-of-reads
-use Rattle.rotations.proofs.turn_vec.Reads as turn-vec-reads
 
--- src/lib.rt:137:22
 turn-vec-requires : tie.Need-turn-vec-requires
 turn-vec-requires c κs = search needs
 
--- src/lib.rt:137:9
 unit-vec-requires : tie.Need-unit-vec-requires
 unit-vec-requires c κs = search needs
 
--- src/lib.rt:138:22
 turn-vec-requires-2 : tie.Need-turn-vec-requires-2
 turn-vec-requires-2 c κs = search needs
 
--- src/lib.rt:138:9
 unit-vec-requires-2 : tie.Need-unit-vec-requires-2
 unit-vec-requires-2 c κs = search needs
 
--- src/lib.rt:139:5
 dot-of-requires : tie.Need-dot-of-requires
 dot-of-requires c κs = search needs
 
--- src/lib.rt:134:1
 returns : tie.Need-returns
 unfolding gravityCosine
 returns c =

@@ -1,3 +1,4 @@
+-- `printable::gravity_preserved` meets its contract: no cosine is below the least exactly if the smallest is not. Assumes nothing.
 use mathlib.Core.Path.{sym}
 use Prim.Native.Nat.{_/_}
 use lib.ListN.{length}
@@ -8,15 +9,10 @@ use Rattle.printable.proofs.Judging.{kept-by-smallest}
 use borrow.Author.Needs.{needs}
 use Rattle.printable.proofs.gravity_preserved.Statement.{statement}
 use Rattle.printable.proofs.gravity_preserved.Tie as tie
-use Rattle.printable.proofs.gravity_preserved.Reads as reads
-use Rattle.printable.proofs.gravity_preserved.Lts as lts
-use Rattle.printable.proofs.min_gravity_cosine.Reads as min-gravity-cosine-reads
 
--- src/lib.rt:176:7
 min-gravity-cosine-requires : tie.Need-min-gravity-cosine-requires
 min-gravity-cosine-requires c κs = search needs
 
--- src/lib.rt:173:1
 returns : tie.Need-returns
 unfolding ratio ofBits
 returns c =

@@ -1,3 +1,4 @@
+-- `printable::may_be_printed` meets its contract: each return is the first test that fails, or that none does. Assumes nothing.
 use mathlib.Core.Path.{refl, sym, ap, _∙_}
 use mathlib.Core.Bool.{not}
 use lib.Ieee.{ofBits}
@@ -7,25 +8,18 @@ use Rattle.printable.specs.Printing.{printing}
 use borrow.Author.Needs.{needs}
 use Rattle.printable.proofs.may_be_printed.Statement.{statement}
 use Rattle.printable.proofs.may_be_printed.Tie as tie
-use Rattle.printable.proofs.may_be_printed.Reads as reads
-use Rattle.printable.proofs.may_be_printed.Lts as lts
-use Rattle.printable.proofs.metrics_finite.Reads as metrics-finite-reads
 
--- src/lib.rt:210:9
 metrics-finite-requires : tie.Need-metrics-finite-requires
 metrics-finite-requires c κs = search needs
 
--- src/lib.rt:211:9
 returns : tie.Need-returns
 unfolding printing
 returns c = taken _ (ap not (sym (c .before .metrics-finite .ensures)) ∙ c .if1 .taken) refl
 
--- src/lib.rt:214:9
 returns-2 : tie.Need-returns-2
 unfolding printing
 returns-2 c = left _ (ap not (sym (c .before .before .metrics-finite .ensures)) ∙ c .before .if1 .left) (taken _ (c .if2 .taken) refl)
 
--- src/lib.rt:217:9
 returns-3 : tie.Need-returns-3
 unfolding printing ratio ofBits
 returns-3 c =
@@ -33,7 +27,6 @@ returns-3 c =
     (left _ (c .before .if2 .left)
     (taken _ (c .if3 .taken) refl))
 
--- src/lib.rt:220:9
 returns-4 : tie.Need-returns-4
 unfolding printing ratio ofBits
 returns-4 c =
@@ -43,7 +36,6 @@ returns-4 c =
     (left _ (d .if3 .left)
     (taken _ (c .if4 .taken) refl)))
 
--- src/lib.rt:223:9
 returns-5 : tie.Need-returns-5
 unfolding printing ratio ofBits
 returns-5 c =
@@ -54,7 +46,6 @@ returns-5 c =
     (left _ (c .before .before .if4 .left)
     (taken _ (c .if5 .taken) refl))))
 
--- src/lib.rt:201:1
 returns-6 : tie.Need-returns-6
 unfolding printing ratio ofBits
 returns-6 c =

@@ -1,3 +1,4 @@
+-- `printable::pose_graph_cost` meets its contract: the loop adds the edges in order. Assumes nothing.
 use mathlib.Core.Path.{_≡_, _∙_, ap}
 use mathlib.Core.List.{[]}
 use Prim.Native.Nat.{_-_, _≤_, _/_}
@@ -11,10 +12,6 @@ use Rattle.printable.proofs.Measuring.{squares-none, squares-more}
 use borrow.Author.Needs.{needs}
 use Rattle.printable.proofs.pose_graph_cost.Statement.{statement}
 use Rattle.printable.proofs.pose_graph_cost.Tie as tie
-use Rattle.printable.proofs.pose_graph_cost.Reads as reads
-use Rattle.printable.proofs.pose_graph_cost.Lts as lts
-use Rattle.printable.proofs.add_residual.Reads as add-residual-reads
-use Rattle.printable.proofs.weighted_edge_residual.Reads as weighted-edge-residual-reads
 
 abbrev Inv-loop : tie.InvT-loop
 Inv-loop poses ends edges n sum₀ k₀ sum k =
@@ -23,41 +20,33 @@ Inv-loop poses ends edges n sum₀ k₀ sum k =
 abbrev μ-loop : tie.MeasureT-loop
 μ-loop poses ends edges n sum₀ k₀ sum k = n - k
 
--- src/lib.rt:84:5
 loop-holds : tie.Need-loop-holds Inv-loop μ-loop
 loop-holds c =
     let a = c .before .before .before .args in
     (omega arith, omega arith, squares-none (lentGraph [] (a .ends .now) (a .edges .now) []) (poseAt (a .poses .now)))
 
--- src/lib.rt:85:28
 weighted-edge-residual-requires : tie.Need-weighted-edge-residual-requires Inv-loop μ-loop
 weighted-edge-residual-requires c κs = search needs
 
--- src/lib.rt:85:9
 add-residual-requires : tie.Need-add-residual-requires Inv-loop μ-loop
 add-residual-requires c κs = search needs
 
--- src/lib.rt:86:9
 add-k : tie.Need-add-k Inv-loop μ-loop
 add-k c = search needs
 
--- src/lib.rt:84:5
 loop-less : tie.Need-loop-less Inv-loop μ-loop
 loop-less c = search needs
 
--- src/lib.rt:84:5
 loop-again : tie.Need-loop-again Inv-loop μ-loop
 loop-again c =
     let l = c .before .before .before in
-    let a = l .before .before .before .before .args in
-    (
+    let a = l .before .before .before .before .args in (
       omega arith,
       omega arith,
       rw (c .add-residual .ensures, c .before .weighted-edge-residual .ensures)
-      (squares-more (lentGraph [] (a .ends .now) (a .edges .now) []) (poseAt (a .poses .now)) (l .loop .k) (l .loop .inv .2)),
+          (squares-more (lentGraph [] (a .ends .now) (a .edges .now) []) (poseAt (a .poses .now)) (l .loop .k) (l .loop .inv .2)),
     )
 
--- src/lib.rt:78:1
 returns : tie.Need-returns Inv-loop μ-loop
 unfolding poseGraphCost ratio ofBits
 returns c =

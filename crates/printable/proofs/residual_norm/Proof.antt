@@ -1,33 +1,24 @@
+-- `printable::residual_norm` meets its contract: the root of the squares, and a NaN where there is no residual. Assumes nothing.
 use lib.Ieee.{ofBits, div}
 use borrow.Author.Needs.{needs}
 use Rattle.printable.proofs.residual_norm.Statement.{statement}
 use Rattle.printable.proofs.residual_norm.Tie as tie
-use Rattle.printable.proofs.residual_norm.Reads as reads
-use Rattle.printable.proofs.residual_norm.Lts as lts
-use Rattle.numbers.proofs.sqrt64.Reads as sqrt64-reads
-use Rattle.printable.proofs.residual_squared.Reads as residual-squared-reads
 
--- src/lib.rt:95:23
 enum-known-r : tie.Need-enum-known-r
 enum-known-r c = search needs
 
--- src/lib.rt:95:45
 residual-squared-requires : tie.Need-residual-squared-requires
 residual-squared-requires c κs = search needs
 
--- src/lib.rt:95:29
 sqrt64-requires : tie.Need-sqrt64-requires
 sqrt64-requires c κs = search needs
 
--- src/lib.rt:96:32
 enum-told : tie.Need-enum-told
 enum-told c = search needs
 
--- src/lib.rt:91:1
 returns : tie.Need-returns
 returns c = rw (c .sqrt64 .ensures, c .before .residual-squared .ensures, c .before .before .before .r .given .1)
 
--- src/lib.rt:91:1
 returns-2 : tie.Need-returns-2
 unfolding ofBits div
 returns-2 c = rw (c .enum-told .given .1)

@@ -1,3 +1,4 @@
+-- `printable::residual_squared` meets its contract: the loop adds the six squares in order. Assumes nothing.
 use mathlib.Core.List.{List}
 use lib.Ieee.{Float}
 use mathlib.Core.Path.{_≡_, _∙_, ap, refl}
@@ -12,10 +13,6 @@ use Rattle.printable.specs.Measures.{squaresOf}
 use borrow.Author.Needs.{needs}
 use Rattle.printable.proofs.residual_squared.Statement.{statement}
 use Rattle.printable.proofs.residual_squared.Tie as tie
-use Rattle.printable.proofs.residual_squared.Reads as reads
-use Rattle.printable.proofs.residual_squared.Lts as lts
-use Rattle.numbers.proofs.widen.Reads as widen-reads
-use Rattle.residual.proofs.six_of.Reads as six-of-reads
 
 abbrev Inv-loop : tie.InvT-loop
 Inv-loop six sum₀ j₀ sum j = (j ≤ 6) × (sum ≡ sumOf binary64 (λ k. getD six k nan ⊗ getD six k nan) j)
@@ -23,40 +20,31 @@ Inv-loop six sum₀ j₀ sum j = (j ≤ 6) × (sum ≡ sumOf binary64 (λ k. get
 abbrev μ-loop : tie.MeasureT-loop
 μ-loop six sum₀ j₀ sum j = 6 - j
 
--- src/lib.rt:57:15
 six-of-requires : tie.Need-six-of-requires Inv-loop μ-loop
 six-of-requires c κs = search needs
 
--- src/lib.rt:60:5
 loop-holds : tie.Need-loop-holds Inv-loop μ-loop
 unfolding sumOf
 loop-holds c = (omega arith, refl)
 
--- src/lib.rt:61:32
 mul-widen : tie.Need-mul-widen Inv-loop μ-loop
 mul-widen c = search needs
 
--- src/lib.rt:61:32
 array-read-widen : tie.Need-array-read-widen Inv-loop μ-loop
 array-read-widen c = search needs
 
--- src/lib.rt:61:13
 widen-requires : tie.Need-widen-requires Inv-loop μ-loop
 widen-requires c κs = search needs
 
--- src/lib.rt:63:9
 add-j : tie.Need-add-j Inv-loop μ-loop
 add-j c = search needs
 
--- src/lib.rt:60:5
 loop-less : tie.Need-loop-less Inv-loop μ-loop
 loop-less c = search needs
 
--- src/lib.rt:60:5
 loop-again : tie.Need-loop-again Inv-loop μ-loop
 loop-again c = (omega arith, rw (c .widen .ensures) (sum-more binary64 _ _ _ (c .before .before .loop .inv .1)))
 
--- src/lib.rt:54:1
 returns : tie.Need-returns Inv-loop μ-loop
 unfolding squaresOf
 returns c =

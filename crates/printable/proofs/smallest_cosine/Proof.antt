@@ -1,5 +1,6 @@
+-- `printable::smallest_cosine` meets its contract: the loop takes the smaller, pose by pose. Assumes nothing.
 use Rattle.printable.proofs.Measuring.{cosine-none, cosine-more}
-use mathlib.Core.Path.{_≡_, _∙_, ap, refl}
+use mathlib.Core.Path.{_≡_, _∙_, ap}
 use Prim.Native.Nat.{_-_, _≤_, _/_}
 use native.Mathlib.Omega.{arith}
 use lib.ListN.{length}
@@ -8,11 +9,6 @@ use Rattle.printable.specs.Measures.{smallestCosine}
 use borrow.Author.Needs.{needs}
 use Rattle.printable.proofs.smallest_cosine.Statement.{statement}
 use Rattle.printable.proofs.smallest_cosine.Tie as tie
-use Rattle.printable.proofs.smallest_cosine.Reads as reads
-use Rattle.printable.proofs.smallest_cosine.Lts as lts
-use Rattle.graph.proofs.pose_at.Reads as pose-at-reads
-use Rattle.printable.proofs.gravity_cosine.Reads as gravity-cosine-reads
-use Rattle.printable.proofs.smaller.Reads as smaller-reads
 
 abbrev Inv-loop : tie.InvT-loop
 Inv-loop g before after n least₀ x₀ least x =
@@ -21,47 +17,37 @@ Inv-loop g before after n least₀ x₀ least x =
 abbrev μ-loop : tie.MeasureT-loop
 μ-loop g before after n least₀ x₀ least x = n - x
 
--- src/lib.rt:155:5
 loop-holds : tie.Need-loop-holds Inv-loop μ-loop
 loop-holds c = (omega arith, omega arith, cosine-none _ _ _)
 
--- src/lib.rt:156:40
 pose-at-requires : tie.Need-pose-at-requires Inv-loop μ-loop
 pose-at-requires c κs = search needs
 
--- src/lib.rt:156:67
 pose-at-requires-2 : tie.Need-pose-at-requires-2 Inv-loop μ-loop
 pose-at-requires-2 c κs = search needs
 
--- src/lib.rt:156:13
 gravity-cosine-requires : tie.Need-gravity-cosine-requires Inv-loop μ-loop
 gravity-cosine-requires c κs = search needs
 
--- src/lib.rt:157:9
 smaller-requires : tie.Need-smaller-requires Inv-loop μ-loop
 smaller-requires c κs = search needs
 
--- src/lib.rt:158:9
 add-x : tie.Need-add-x Inv-loop μ-loop
 add-x c = search needs
 
--- src/lib.rt:155:5
 loop-less : tie.Need-loop-less Inv-loop μ-loop
 loop-less c = search needs
 
--- src/lib.rt:155:5
 loop-again : tie.Need-loop-again Inv-loop μ-loop
 loop-again c =
     let l = c .before .before .before .before .before in
-    let a = l .before .before .before .args in
-    (
+    let a = l .before .before .before .args in (
       omega arith,
       omega arith,
       rw (c .smaller .ensures, c .before .gravity-cosine .ensures, c .before .before .pose-at2 .ensures, c .before .before .before .pose-at .ensures)
-      (cosine-more (a .g) (poseAt (a .before .now)) (poseAt (a .after .now)) (l .loop .x) (l .loop .inv .2)),
+          (cosine-more (a .g) (poseAt (a .before .now)) (poseAt (a .after .now)) (l .loop .x) (l .loop .inv .2)),
     )
 
--- src/lib.rt:149:1
 returns : tie.Need-returns Inv-loop μ-loop
 returns c =
     let l = c .before in
