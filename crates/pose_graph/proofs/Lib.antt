@@ -1,0 +1,3 @@
+pub mod EdgesAlone
+pub mod Large
+pub mod Promises

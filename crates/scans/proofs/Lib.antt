@@ -1,0 +1,5 @@
+pub mod Nodes
+pub mod Strings
+pub mod Fits
+pub mod Built
+pub mod Slips
