@@ -37,7 +37,9 @@ use Rattle.job.specs.declared.Written.the-variants as written
 use Rattle.job.proofs.Trips.{read-lengths, read-tally}
 use Rattle.job.proofs.Writing.{misfit, written-whole, Within, written-within}
 use Rattle.join_job.specs.Joining.{floats, patterns, ranOver, runOf, jobRun, withPoses, reportAs, reportFrom, reportOf}
-use Rattle.join_job.specs.Joining.{writtenWith, joinedAs, joinedWith, joinedFrom, joinedInto}
+use Rattle.join_job.specs.Joining.{jobJudged, writtenWith, joinedAs, joinedWith, joinedFrom, joinedInto}
+use Rattle.join_job.specs.declared.Judged.{Judged}
+use Rattle.join_job.specs.declared.Judged.the-variants as judged
 use Rattle.join_job.specs.declared.Report.{Report}
 
 -- ---- a run holds as many numbers as it began with
@@ -135,13 +137,13 @@ module _ (room : Tally) (s : List ℕ) (out : List ℕ) (long : sizeOf room ≤ 
         let k : sizeOf (tallyOf moved) ≤ length out = omega arith in
         ap (λ (w : Written × List ℕ). writtenWith r w .0) (sym (written-whole moved out u (le-ltb _ _ k)))
 
-    said-of : (a : Answer) → joinedAs had j out (jobRun j) a .0 ≡ reportAs had a
-    said-of (answer.Joined x) = said-whole (reportAs had (answer.Joined x))
-    said-of (answer.Refused r) = refl
+    said-of : (a : Judged) → joinedAs had j out (jobRun j) a .0 ≡ reportAs had a
+    said-of (judged.Ran x p) = said-whole (reportAs had (judged.Ran x p))
+    said-of (judged.Refused r) = refl
 
   said-from : (x : Reading) → reading room s ≡ x → joinedFrom out x .0 ≡ reportFrom x
   unfolding joinedWith
-  said-from (taken had j) e = said-of had j e (jobRun j .answer)
+  said-from (taken had j) e = said-of had j e (jobJudged j)
   said-from (refused r) e = refl
 
   pub joined-report : joinedInto room s out .0 ≡ reportOf room s
@@ -155,16 +157,16 @@ within-said r (written.Bytes n, out) h = h
 within-said r (written.Refused q, out) h = omega arith
 
 module _ (room : Tally) (s out : List ℕ) where
-  within-as : (had : Tally) (j : Job) (a : Answer) → joinedAs had j out (jobRun j) a .1 ≤ length (joinedAs had j out (jobRun j) a .2)
-  within-as had j (answer.Refused r) = omega arith
-  within-as had j (answer.Joined x) =
+  within-as : (had : Tally) (j : Job) (a : Judged) → joinedAs had j out (jobRun j) a .1 ≤ length (joinedAs had j out (jobRun j) a .2)
+  within-as had j (judged.Refused r) = omega arith
+  within-as had j (judged.Ran x p) =
       let moved = withPoses j (patterns binary64 (jobRun j .out)) in
-      within-said (reportAs had (answer.Joined x)) (writtenInto moved out) (written-within moved out)
+      within-said (reportAs had (judged.Ran x p)) (writtenInto moved out) (written-within moved out)
 
   within-from : (x : Reading) → joinedFrom out x .1 ≤ length (joinedFrom out x .2)
   unfolding joinedWith
   within-from (refused r) = omega arith
-  within-from (taken had j) = within-as had j (jobRun j .answer)
+  within-from (taken had j) = within-as had j (jobJudged j)
 
   pub joined-within : joinedInto room s out .1 ≤ length (joinedInto room s out .2)
   unfolding joinedInto

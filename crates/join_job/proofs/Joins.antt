@@ -10,7 +10,7 @@ use lib.Seq.{length-take-le, take-at}
 use lib.Ieee.{binary64}
 use Rattle.numbers.specs.declared.Refusal.{Refusal}
 use Rattle.sparse_pgo.specs.declared.Joined.{Joined}
-use Rattle.sparse_pgo.specs.declared.Answer.the-variants as answer
+use Rattle.printable.specs.declared.Printable.{Printable}
 use Rattle.job.specs.Bytes.{pasted}
 use Rattle.job.specs.Format.{Job, Space, space, roomIn, filled, Reading, taken, refused, reading}
 use Rattle.job.specs.Format.{settingsFrom, settingNumbers, given, readInto, jobOf, writtenInto}
@@ -21,7 +21,8 @@ use Rattle.job.specs.declared.Read.the-variants as read
 use Rattle.job.specs.declared.Written.{Written}
 use Rattle.job.proofs.Again.{front, settings-back, given-taken}
 use Rattle.job.proofs.Trips.{read-settings, read-lengths, read-tally}
-use Rattle.join_job.specs.Joining.{patterns, runOf, jobRun, reportAs, writtenWith, joinedAs, joinedWith, joinedFrom, joinedInto}
+use Rattle.join_job.specs.Joining.{patterns, runOf, jobRun, judgedOf, jobJudged, reportAs, writtenWith, joinedAs, joinedWith, joinedFrom, joinedInto}
+use Rattle.join_job.specs.declared.Judged.the-variants as judged
 use Rattle.join_job.specs.declared.Report.the-variants as report
 
 -- so many of each, within arrays that hold them
@@ -37,17 +38,17 @@ taken-fits k l {n} {m} h e = let p = mul-le-mul-left k h in let q = length-take-
 -- ---- what was read, run and written
 
 module _ (t : SettingBits) (had : Tally) (l : Space) (out : List ℕ) where
-  pub run-refused : (r : Refusal) → answer.Refused r ≡ runOf t l .answer → (report.Refused r, 0, out) ≡ joinedWith had (jobOf t l) out
-  unfolding joinedWith jobRun
+  pub run-refused : (r : Refusal) → judged.Refused r ≡ judgedOf t l → (report.Refused r, 0, out) ≡ joinedWith had (jobOf t l) out
+  unfolding joinedWith jobRun jobJudged
   run-refused r e = ap (joinedAs had (jobOf t l) out (runOf t l)) e
 
-  pub run-written : (j : Joined) (new : List ℕ) (w : Written) (after : List ℕ) → answer.Joined j ≡ runOf t l .answer
+  pub run-written : (j : Joined) (p : Printable) (new : List ℕ) (w : Written) (after : List ℕ) → judged.Ran j p ≡ judgedOf t l
       → new ≡ patterns binary64 (runOf t l .out) → (w, after) ≡ writtenInto (jobOf t (space new (l .ends) (l .edges) (l .fixed))) out
-      → writtenWith (reportAs had (answer.Joined j)) (w, after) ≡ joinedWith had (jobOf t l) out
-  unfolding joinedWith jobRun
-  run-written j new w after e n p =
-      ap (writtenWith (reportAs had (answer.Joined j)))
-      (p ∙ ap (λ (x : List ℕ). writtenInto (jobOf t (space x (l .ends) (l .edges) (l .fixed))) out) n)
+      → writtenWith (reportAs had (judged.Ran j p)) (w, after) ≡ joinedWith had (jobOf t l) out
+  unfolding joinedWith jobRun jobJudged
+  run-written j p new w after e n q =
+      ap (writtenWith (reportAs had (judged.Ran j p)))
+      (q ∙ ap (λ (x : List ℕ). writtenInto (jobOf t (space x (l .ends) (l .edges) (l .fixed))) out) n)
       ∙ ap (joinedAs had (jobOf t l) out (runOf t l)) e
 
 -- ---- what the reader gave

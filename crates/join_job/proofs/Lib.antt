@@ -1,3 +1,5 @@
 pub mod Patterns
 pub mod Joins
 pub mod Fitting
+pub mod Spoken
+pub mod Slips

@@ -18,7 +18,8 @@ use Rattle.graph.specs.declared.Settings.{Settings}
 use Rattle.sparse_pgo.specs.Optimize.{After, optimized}
 use Rattle.job.specs.declared.SettingBits.{SettingBits}
 use Rattle.job.specs.Format.{Space}
-use Rattle.join_job.specs.Joining.{floats, settingsAs, ranOver, runOf}
+use Rattle.sparse_pgo.specs.declared.Answer.{Answer}
+use Rattle.join_job.specs.Joining.{floats, settingsAs, ranOver, runOf, judgedAs, judgedOver, judgedOf}
 use Rattle.numbers.proofs.Filling.{getD-within}
 use Rattle.numbers.proofs.Laying.{Laid}
 
@@ -118,11 +119,28 @@ module _ {A : Type 0} (n : ℕ) (b e : List A) (h : n ≤ length b) (k : length 
   pub front-again : take n (e ++ drop n b) ≡ e
   front-again = take-at e (drop n b) n (k ∙ length-take-le n b h)
 
--- the run of what was read, from its floats and an output of zeros
-pub run-is : (t : SettingBits) (l : Space) (poses edges out : List Float) → poses ≡ floats binary64 (l .poses) → edges ≡ floats binary32 (l .edges)
-    → out ≡ replicate (length (l .poses)) (num 0) → ranOver t poses (l .ends) edges (l .fixed) out ≡ runOf t l
-unfolding runOf
-run-is t l poses edges out p q r =
-    ap (λ (x : List Float). ranOver t x (l .ends) edges (l .fixed) out) p
-    ∙ ap (λ (x : List Float). ranOver t (floats binary64 (l .poses)) (l .ends) x (l .fixed) out) q
-    ∙ ap (λ (x : List Float). ranOver t (floats binary64 (l .poses)) (l .ends) (floats binary32 (l .edges)) (l .fixed) x) r
+-- what is worked out from what was read, from its floats and an output of zeros
+from-floats : {A : Type 0} (f : List Float → List ℕ → List Float → List ℕ → List Float → A) (l : Space) (poses edges out : List Float)
+    → poses ≡ floats binary64 (l .poses) → edges ≡ floats binary32 (l .edges) → out ≡ replicate (length (l .poses)) (num 0)
+    → f poses (l .ends) edges (l .fixed) out
+    ≡ f (floats binary64 (l .poses)) (l .ends) (floats binary32 (l .edges)) (l .fixed) (replicate (length (l .poses)) (num 0))
+from-floats f l poses edges out p q r = rw (p, q, r)
+
+module _ (t : SettingBits) (l : Space) (poses edges out : List Float) (p : poses ≡ floats binary64 (l .poses)) (q : edges ≡ floats binary32 (l .edges))
+    (r : out ≡ replicate (length (l .poses)) (num 0)) where
+  pub run-is : ranOver t poses (l .ends) edges (l .fixed) out ≡ runOf t l
+  unfolding runOf
+  run-is = from-floats (ranOver t) l poses edges out p q r
+
+  pub judged-is : judgedOver t poses (l .ends) edges (l .fixed) out ≡ judgedOf t l
+  unfolding judgedOf
+  judged-is = from-floats (judgedOver t) l poses edges out p q r
+
+-- a run's answer, judged at what it gave
+pub judged-as : (t : SettingBits) (poses : List Float) (ends : List ℕ) (edges : List Float) (fixed : List ℕ) (out new : List Float) (a : Answer)
+    → a ≡ ranOver t poses ends edges fixed out .answer → new ≡ ranOver t poses ends edges fixed out .out
+    → judgedAs (t .limit) poses ends edges new a ≡ judgedOver t poses ends edges fixed out
+unfolding judgedOver
+judged-as t poses ends edges fixed out new a p q =
+    ap (λ (x : List Float). judgedAs (t .limit) poses ends edges x a) q
+    ∙ ap (judgedAs (t .limit) poses ends edges (ranOver t poses ends edges fixed out .out)) p

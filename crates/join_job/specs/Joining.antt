@@ -1,15 +1,16 @@
 -- A job's run: document 02, Wish 1, "A job means a DOF 6 run". What was read is run by `optimized`, every setting as it stands in the job, and where that
--- succeeds the job is written again with the new poses. A job's patterns become floats, and floats patterns, here and nowhere else.
--- Definitions only.
-use Prim.Native.Nat.{ℕ}
-use mathlib.Core.List.{List, map}
+-- succeeds it is judged as a scan is (Wish 2) and the job is written again with the new poses. A job's patterns become floats, and floats patterns, here and
+-- nowhere else. Definitions only.
+use Prim.Native.Nat.{ℕ, _/_}
+use mathlib.Core.List.{List, [], _++_, map}
 use lib.ListN.{length, replicate}
 use lib.Ieee.{Float, Format, binary32, binary64, ofBits, toBits}
 use Rattle.numbers.specs.Notation.{num}
-use Rattle.graph.specs.Lent.{lent}
+use Rattle.graph.specs.Lent.{lent, lentGraph, poseAt}
 use Rattle.graph.specs.declared.Manifold.the-variants.{Se3}
 use Rattle.graph.specs.declared.Settings.{Settings}
 use Rattle.sparse_pgo.specs.Optimize.{After, optimized}
+use Rattle.sparse_pgo.specs.declared.Joined.{Joined}
 use Rattle.sparse_pgo.specs.declared.Answer.{Answer}
 use Rattle.sparse_pgo.specs.declared.Answer.the-variants as answer
 use Rattle.job.specs.Format.{Job, Space, space, Reading, taken, refused, reading, settingsFrom, writtenInto}
@@ -17,7 +18,13 @@ use Rattle.job.specs.declared.Tally.{Tally}
 use Rattle.job.specs.declared.SettingBits.{SettingBits}
 use Rattle.job.specs.declared.Written.{Written}
 use Rattle.job.specs.declared.Written.the-variants as written
-use Rattle.line.specs.Text.{ranText, refusedText}
+use Rattle.printable.specs.Printing.{printingRun}
+use Rattle.printable.specs.declared.Printable.{Printable}
+use Rattle.printable.specs.declared.Printable.the-variants as printable
+use Rattle.line.specs.Text.{ascii, decimal, ranText, refusedText}
+use Rattle.line.specs.FloatText.{floatText}
+use Rattle.join_job.specs.declared.Judged.{Judged}
+use Rattle.join_job.specs.declared.Judged.the-variants as judged
 use Rattle.join_job.specs.declared.Report.{Report}
 use Rattle.join_job.specs.declared.Report.the-variants as report
 
@@ -54,15 +61,36 @@ runOf t l = ranOver t (floats binary64 (l .poses)) (l .ends) (floats binary32 (l
 unfoldable pub jobRun : Job → After
 jobRun j = runOf (settingsFrom (j .settings)) (space (j .poses) (j .ends) (j .edges) (j .fixed))
 
+-- ---- may it be printed
+
+-- at the poses given and at those that came out
+unfoldable pub printableOf : ℕ → List Float → List ℕ → List Float → List Float → Joined → Printable
+printableOf limit poses ends edges new j =
+    printingRun (j .converged) (j .iterations) limit Se3 (length poses / 12) (lentGraph [] ends edges []) (poseAt poses) (poseAt new)
+
+abbrev pub judgedAs : ℕ → List Float → List ℕ → List Float → List Float → Answer → Judged
+judgedAs limit poses ends edges new (answer.Refused r) = judged.Refused r
+judgedAs limit poses ends edges new (answer.Joined j) = judged.Ran j (printableOf limit poses ends edges new j)
+
+unfoldable pub judgedOver : SettingBits → List Float → List ℕ → List Float → List ℕ → List Float → Judged
+judgedOver t poses ends edges fixed out =
+    let a = ranOver t poses ends edges fixed out in judgedAs (t .limit) poses ends edges (a .out) (a .answer)
+
+unfoldable pub judgedOf : SettingBits → Space → Judged
+judgedOf t l = judgedOver t (floats binary64 (l .poses)) (l .ends) (floats binary32 (l .edges)) (l .fixed) (replicate (length (l .poses)) (num 0))
+
+unfoldable pub jobJudged : Job → Judged
+jobJudged j = judgedOf (settingsFrom (j .settings)) (space (j .poses) (j .ends) (j .edges) (j .fixed))
+
 -- ---- what is said of a job
 
-abbrev pub reportAs : Tally → Answer → Report
-reportAs had (answer.Refused r) = report.Refused r
-reportAs had (answer.Joined j) = report.Ran (had .poses) (had .edges) (j .iterations) (j .converged)
+abbrev pub reportAs : Tally → Judged → Report
+reportAs had (judged.Refused r) = report.Refused r
+reportAs had (judged.Ran j p) = report.Ran (had .poses) (had .edges) (j .iterations) (j .converged) p
 
 abbrev pub reportFrom : Reading → Report
 reportFrom (refused r) = report.Refused r
-reportFrom (taken had j) = reportAs had (jobRun j .answer)
+reportFrom (taken had j) = reportAs had (jobJudged j)
 
 -- by a program that has room for so many
 unfoldable pub reportOf : Tally → List ℕ → Report
@@ -70,8 +98,26 @@ reportOf room s = reportFrom (reading room s)
 
 -- the line that a program prints
 abbrev pub reportText : Report → List ℕ
-reportText (report.Ran poses edges iterations converged) = ranText poses edges iterations converged
+reportText (report.Ran poses edges iterations converged p) = ranText poses edges iterations converged
 reportText (report.Refused r) = refusedText (r .number) (r .place)
+
+-- what is said of printing: yes, or no and the first test that fails, with what it compared
+unfoldable pub printableText : Printable → List ℕ
+printableText printable.Yes = ascii "may be printed: yes\n"
+printableText printable.NoResidual = ascii "may be printed: no, the last edge has no residual\n"
+printableText (printable.NotConverged iterations limit) =
+    ascii "may be printed: no, not converged (iterations " ++ decimal iterations ++ ascii ", limit " ++ decimal limit ++ ascii ")\n"
+printableText (printable.Tipped cosine) =
+    ascii "may be printed: no, gravity tipped (smallest cosine " ++ floatText cosine ++ ascii ", least 0.999999995)\n"
+printableText (printable.CostKept before after) =
+    ascii "may be printed: no, the cost did not fall (before " ++ floatText before ++ ascii ", after " ++ floatText after ++ ascii ")\n"
+printableText (printable.LastWorse before after) =
+    ascii "may be printed: no, the last edge got worse (before " ++ floatText before ++ ascii ", after " ++ floatText after ++ ascii ")\n"
+
+-- `join`'s second line; none where the job was turned down
+abbrev pub secondText : Report → List ℕ
+secondText (report.Ran poses edges iterations converged p) = printableText p
+secondText (report.Refused r) = []
 
 -- ---- the joined job: the same settings, edges and fixed entries, the new poses
 
@@ -83,14 +129,14 @@ abbrev pub writtenWith : Report → Written × List ℕ → Report × ℕ × Lis
 writtenWith said (written.Bytes n, out) = (said, n, out)
 writtenWith said (written.Refused r, out) = (report.Refused r, 0, out)
 
-abbrev pub joinedAs : Tally → Job → List ℕ → After → Answer → Report × ℕ × List ℕ
-joinedAs had j out a (answer.Refused r) = (report.Refused r, 0, out)
-joinedAs had j out a (answer.Joined x) =
-    writtenWith (reportAs had (answer.Joined x)) (writtenInto (withPoses j (patterns binary64 (a .out))) out)
+abbrev pub joinedAs : Tally → Job → List ℕ → After → Judged → Report × ℕ × List ℕ
+joinedAs had j out a (judged.Refused r) = (report.Refused r, 0, out)
+joinedAs had j out a (judged.Ran x p) =
+    writtenWith (reportAs had (judged.Ran x p)) (writtenInto (withPoses j (patterns binary64 (a .out))) out)
 
 -- the job that was read is run, and written again
 unfoldable pub joinedWith : Tally → Job → List ℕ → Report × ℕ × List ℕ
-joinedWith had j out = joinedAs had j out (jobRun j) (jobRun j .answer)
+joinedWith had j out = joinedAs had j out (jobRun j) (jobJudged j)
 
 abbrev pub joinedFrom : List ℕ → Reading → Report × ℕ × List ℕ
 joinedFrom out (refused r) = (report.Refused r, 0, out)

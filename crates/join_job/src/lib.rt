@@ -1,15 +1,19 @@
-// A job's run (document 02, Wish 1): a job is read, run with six degrees of freedom a pose, and written again with the new poses. What a program says of it is
-// made here too, so that programs only read and write.
+// A job's run (document 02, Wishes 1 and 2): a job is read, run with six degrees of freedom a pose, judged, and written again with the new poses. What a program
+// says of it is made here too, so that programs only read and write.
 ghost use mathlib.Core.Path.{_≡_};
 ghost use Prim.Native.Nat.{_*_, _≤_};
+ghost use mathlib.Core.List.{_++_};
 ghost use lib.Ieee.{binary32, binary64, ofBits, toBits};
 ghost use lib.ListN.{length, take, replicate};
 ghost use Rattle.numbers.specs.Notation.{num};
 ghost use Rattle.io.specs.Counts.{Counts};
 ghost use Rattle.job.specs.Format.{space, jobOf, sizeOf, readAtMost};
-ghost use Rattle.line.specs.Text.{lineOf};
-ghost use Rattle.join_job.specs.Joining.{floats, patterns, settingsAs, ranOver, runOf, joinedWith, joinedInto};
-ghost use Rattle.join_job.specs.Joining.{reportOf, reportText, smallRoom, fullRoom};
+ghost use Rattle.printable.specs.declared.Printable.the-variants as printable;
+ghost use Rattle.line.specs.Text.{ascii, lineOf};
+ghost use Rattle.line.specs.FloatText.{floatText};
+ghost use Rattle.join_job.specs.Joining.{floats, patterns, settingsAs, ranOver, runOf, printableOf, judgedOver, judgedOf, joinedWith, joinedInto};
+ghost use Rattle.join_job.specs.Joining.{reportOf, reportText, printableText, secondText, smallRoom, fullRoom};
+use graph::Manifold;
 use graph::Settings;
 use job::Read;
 use job::SettingBits;
@@ -17,11 +21,19 @@ use job::Tally;
 use job::Written;
 use line::Line;
 use numbers::Refusal;
+use printable::Printable;
 use sparse_pgo::Answer;
+use sparse_pgo::Joined;
 
-// What is said of a job: poses, edges, iterations and whether it converged; or why it was turned down.
+// A run that was made, and whether it may be printed; or why it was turned down.
+pub enum Judged {
+    Ran(Joined, Printable),
+    Refused(Refusal),
+}
+
+// What is said of a job: poses, edges, iterations, whether it converged and whether it may be printed; or why it was turned down.
 pub enum Report {
-    Ran(usize, usize, u32, bool),
+    Ran(usize, usize, u32, bool, Printable),
     Refused(Refusal),
 }
 
@@ -150,6 +162,40 @@ fn run_over(
     )
 }
 
+fn printable_of(
+    limit: u32,
+    poses: &[f64],
+    ends: &[u32],
+    edges: &[f32],
+    new: &[f64],
+    j: Joined,
+) -> Printable
+    ensures { λ r. ⌜ r ≡ printableOf limit (now (poses .entry)) (now (ends .entry)) (now (edges .entry)) (now (new .entry)) j ⌝ }
+{
+    let m = printable::measure(poses, new, ends, edges);
+    let cosine = printable::min_gravity_cosine(Manifold::Se3, poses, new);
+    printable::may_be_printed(j.converged, j.iterations, limit, cosine, m)
+}
+
+// The run, and whether what came out may be printed.
+fn judge_over(
+    t: SettingBits,
+    poses: &[f64],
+    ends: &[u32],
+    edges: &[f32],
+    fixed: &[u32],
+    out: &mut [f64],
+) -> Judged
+    ensures { λ r. ⌜ r ≡ judgedOver t (now (poses .entry)) (now (ends .entry)) (now (edges .entry)) (now (fixed .entry)) (now (out .entry)) ⌝ }
+    ensures { λ _. ⌜ now (out .exit) ≡ ranOver t (now (poses .entry)) (now (ends .entry)) (now (edges .entry)) (now (fixed .entry)) (now (out .entry)) .out ⌝ }
+{
+    let a = run_over(t, poses, ends, edges, fixed, out);
+    match a {
+        Answer::Refused(r) => Judged::Refused(r),
+        Answer::Joined(j) => Judged::Ran(j, printable_of(t.limit, poses, ends, edges, out, j)),
+    }
+}
+
 // The run of what was read; the new poses' bits where it succeeds.
 fn run_job(
     t: SettingBits,
@@ -158,9 +204,9 @@ fn run_job(
     edges: &[u32],
     fixed: &[u32],
     new: &mut [u64],
-) -> Answer
+) -> Judged
     requires { ⌜ (length (now poses) ≤ 3072) × (length (now edges) ≤ 8192) × (length (now new) ≡ length (now poses)) ⌝ }
-    ensures { λ r. ⌜ r ≡ runOf t (space (now (poses .entry)) (now (ends .entry)) (now (edges .entry)) (now (fixed .entry))) .answer ⌝ }
+    ensures { λ r. ⌜ r ≡ judgedOf t (space (now (poses .entry)) (now (ends .entry)) (now (edges .entry)) (now (fixed .entry))) ⌝ }
     ensures { λ _. ⌜ now (new .exit) ≡ patterns binary64 (runOf t (space (now (poses .entry)) (now (ends .entry)) (now (edges .entry)) (now (fixed .entry))) .out) ⌝ }
 {
     let n = poses.len();
@@ -168,7 +214,7 @@ fn run_job(
     let doubled = doubles(poses);
     let singled = singles(edges);
     let mut out = blank_doubles();
-    let a = run_over(t, &doubled[..n], ends, &singled[..m], fixed, &mut out[..n]);
+    let a = judge_over(t, &doubled[..n], ends, &singled[..m], fixed, &mut out[..n]);
     bits(&out[..n], new);
     a
 }
@@ -231,17 +277,14 @@ fn join_read(
     let n = poses.len();
     let mut new = blank_poses();
     let a = run_job(t, poses, ends, edges, fixed, &mut new[..n]);
-    let j = match a {
-        Answer::Joined(j) => j,
-        Answer::Refused(r) => {
+    let report = match a {
+        Judged::Ran(j, p) => Report::Ran(had.poses, had.edges, j.iterations, j.converged, p),
+        Judged::Refused(r) => {
             return refused(r);
         }
     };
     match job::write_job(t, &new[..n], ends, edges, fixed, out) {
-        Written::Bytes(k) => Joining {
-            report: Report::Ran(had.poses, had.edges, j.iterations, j.converged),
-            bytes: k,
-        },
+        Written::Bytes(k) => Joining { report, bytes: k },
         Written::Refused(r) => refused(r),
     }
 }
@@ -365,9 +408,73 @@ pub fn said(r: Report) -> Line
     ensures { λ l. ⌜ l ≡ lineOf (reportText r) ⌝ }
 {
     match r {
-        Report::Ran(poses, edges, iterations, converged) => {
+        Report::Ran(poses, edges, iterations, converged, _) => {
             line::ran(poses as u64, edges as u64, wide(iterations), converged)
         }
         Report::Refused(r) => line::refused(wide(r.number), r.place as u64),
+    }
+}
+
+// A text and two numbers.
+fn with_two(text: &[u8], before: f64, after: f64) -> Line
+    ensures { λ l. ⌜ l ≡ lineOf (now (text .entry) ++ floatText before ++ ascii ", after " ++ floatText after ++ ascii ")\n") ⌝ }
+{
+    let l = line::with_float(line::with_text(line::empty(), text), before);
+    let l = line::with_float(line::with_text(l, b", after "), after);
+    line::with_text(l, b")\n")
+}
+
+fn not_converged(iterations: u32, limit: u32) -> Line
+    ensures { λ l. ⌜ l ≡ lineOf (printableText (printable.NotConverged iterations limit)) ⌝ }
+{
+    let l = line::with_text(
+        line::empty(),
+        b"may be printed: no, not converged (iterations ",
+    );
+    let l = line::with_text(line::with_decimal(l, wide(iterations)), b", limit ");
+    line::with_text(line::with_decimal(l, wide(limit)), b")\n")
+}
+
+fn tipped(cosine: f64) -> Line
+    ensures { λ l. ⌜ l ≡ lineOf (printableText (printable.Tipped cosine)) ⌝ }
+{
+    let l = line::with_text(
+        line::empty(),
+        b"may be printed: no, gravity tipped (smallest cosine ",
+    );
+    line::with_text(line::with_float(l, cosine), b", least 0.999999995)\n")
+}
+
+fn printable_said(p: Printable) -> Line
+    ensures { λ l. ⌜ l ≡ lineOf (printableText p) ⌝ }
+{
+    match p {
+        Printable::Yes => line::with_text(line::empty(), b"may be printed: yes\n"),
+        Printable::NoResidual => line::with_text(
+            line::empty(),
+            b"may be printed: no, the last edge has no residual\n",
+        ),
+        Printable::NotConverged(iterations, limit) => not_converged(iterations, limit),
+        Printable::Tipped(cosine) => tipped(cosine),
+        Printable::CostKept(before, after) => with_two(
+            b"may be printed: no, the cost did not fall (before ",
+            before,
+            after,
+        ),
+        Printable::LastWorse(before, after) => with_two(
+            b"may be printed: no, the last edge got worse (before ",
+            before,
+            after,
+        ),
+    }
+}
+
+// `join`'s second line; an empty one, which says nothing, where the job was turned down.
+pub fn second_said(r: Report) -> Line
+    ensures { λ l. ⌜ l ≡ lineOf (secondText r) ⌝ }
+{
+    match r {
+        Report::Ran(_, _, _, _, p) => printable_said(p),
+        Report::Refused(_) => line::empty(),
     }
 }

@@ -127,7 +127,7 @@ pub decimal-digits : (k n : ℕ) → n < 2 ^ 64 → Fewest 10 1 n k → digits 1
 unfolding decimal
 decimal-digits k n h f = few-digits 20 k n f (at-most-twenty k n h f)
 
-decimal-length : (k n : ℕ) → length (decimalOf k n) ≤ k
+pub decimal-length : (k n : ℕ) → length (decimalOf k n) ≤ k
 unfolding if-then
 decimal-length zero n = omega arith
 decimal-length (suc k) n = go (ltb n 10) (decimal-length k (n / 10))

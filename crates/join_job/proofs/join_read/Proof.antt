@@ -86,7 +86,7 @@ returns-2 c =
     let new =
     front-again (length (now (a .poses))) (b .result) (run .last .1 .1 .1 .1 .1 .0) (fits-in (z .pre .0) (b .ensures)) (run .kept .1 .1 .1 .1 .1 .0)
     ∙ run .ensures .1 in
-    run-written (a .t) (a .had) l (now (a .out)) _ _ _ _ (sym (v .before .before .before .before .a .given .1) ∙ run .ensures .0) new
+    run-written (a .t) (a .had) l (now (a .out)) _ _ _ _ _ (sym (v .before .before .before .before .a .given .1) ∙ run .ensures .0) new
     (ap (λ (y : Written). (y, w .last .1 .1 .1 .1 .1 .0)) (sym (c .before .k .given .1)) ∙ w .ensures)
 
 same-length-2 : tie.Need-same-length-2
@@ -106,7 +106,7 @@ returns-3 c =
     front-again (length (now (a .poses))) (b .result) (run .last .1 .1 .1 .1 .1 .0) (fits-in (z .pre .0) (b .ensures)) (run .kept .1 .1 .1 .1 .1 .0)
     ∙ run .ensures .1 in
     rw (c .refused2 .ensures)
-    (run-written (a .t) (a .had) l (now (a .out)) _ _ _ _ (sym (v .before .before .before .before .a .given .1) ∙ run .ensures .0) new
+    (run-written (a .t) (a .had) l (now (a .out)) _ _ _ _ _ (sym (v .before .before .before .before .a .given .1) ∙ run .ensures .0) new
     (ap (λ (y : Written). (y, w .last .1 .1 .1 .1 .1 .0)) (sym (c .before .before .r .given .1)) ∙ w .ensures))
 
 pub join-read-spec : {M : Type 1} → statement M

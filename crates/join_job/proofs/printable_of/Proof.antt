@@ -1,0 +1,23 @@
+-- The measures and the cosine are those of the run, at the poses given and at those that came out. Assumes nothing.
+use Rattle.join_job.specs.Joining.{printableOf}
+use borrow.Author.Needs.{needs}
+use Rattle.join_job.proofs.printable_of.Statement.{statement}
+use Rattle.join_job.proofs.printable_of.Tie as tie
+
+measure-requires : tie.Need-measure-requires
+measure-requires c κs = search needs
+
+min-gravity-cosine-requires : tie.Need-min-gravity-cosine-requires
+min-gravity-cosine-requires c κs = search needs
+
+may-be-printed-requires : tie.Need-may-be-printed-requires
+may-be-printed-requires c κs = search needs
+
+returns : tie.Need-returns
+unfolding printableOf
+returns c = rw (c .may-be-printed .ensures, c .before .min-gravity-cosine .ensures, c .before .before .measure .ensures)
+
+pub printable-of-spec : {M : Type 1} → statement M
+printable-of-spec =
+    tie.close
+    (tie.spec measure-requires min-gravity-cosine-requires may-be-printed-requires returns)
