@@ -58,7 +58,8 @@ module _ (limit : ℕ) (tolerance : Float) (s : State) where
   solved-tells (raw.Numerical r) = rejecting-tells (raw.Numerical r)
   solved-tells (raw.Priced new) = at (lt new (s .cost))
     where
-      at : (b : Bool) → Tells s (raw.Priced new) (stateOf (solved s limit tolerance (outcome.Tried (if-then b (trial.Accepted new) (trial.Rejected reason.Cost)))))
+      at : (b : Bool)
+          → Tells s (raw.Priced new) (stateOf (solved s limit tolerance (outcome.Tried (if-then b (trial.Accepted new) (trial.Rejected reason.Cost)))))
       at true = accepting-tells new
       at false = rejecting-tells (raw.Priced new)
 
@@ -78,9 +79,10 @@ module _ (limit : ℕ) (tolerance : Float) (s : State) where
       top false spent a = solved-tells e
 
 -- C x c: what is held, x, has the cost c
-module _ {X : Type 0} (C : X → Float → Type 0) (m : Numerics X) (priced : (x : X) (damping new : Float) → m .attempt x damping ≡ raw.Priced new → C (m .moved x damping) new)
-    (limit : ℕ) (tolerance : Float) where
-  turn-holds : (first : Float) (s : State) (x : X) (t : State) → Live limit first s → Tells s (m .attempt x (s .damping)) t → C x (s .cost) → C (movedOn s t (m .moved x (s .damping)) x) (t .cost)
+module _ {X : Type 0} (C : X → Float → Type 0) (m : Numerics X)
+    (priced : (x : X) (damping new : Float) → m .attempt x damping ≡ raw.Priced new → C (m .moved x damping) new) (limit : ℕ) (tolerance : Float) where
+  turn-holds : (first : Float) (s : State) (x : X) (t : State) → Live limit first s → Tells s (m .attempt x (s .damping)) t → C x (s .cost)
+      → C (movedOn s t (m .moved x (s .damping)) x) (t .cost)
   unfolding movedOn
   turn-holds first s x t live (stayed a c) h =
       subst (λ (y : X). C y (t .cost)) (left _ (le-ltb (s .accepted) (t .accepted) (le-of-eq a)) refl) (subst (C x) (sym c) h)
@@ -89,7 +91,8 @@ module _ {X : Type 0} (C : X → Float → Type 0) (m : Numerics X) (priced : (x
       let l : s .accepted < t .accepted = omega arith in
       subst (λ (y : X). C y (t .cost)) (taken _ (lt-ltb (s .accepted) (t .accepted) l) refl) (priced x (s .damping) (t .cost) e)
 
-  next-holds : (first : Float) (n : Next) (x : X) → Kept limit first n → C x (stateOf n .cost) → C (heldOf m limit tolerance n x) (stateOf (nextOf m limit tolerance n x) .cost)
+  next-holds : (first : Float) (n : Next) (x : X) → Kept limit first n → C x (stateOf n .cost)
+      → C (heldOf m limit tolerance n x) (stateOf (nextOf m limit tolerance n x) .cost)
   unfolding heldOf nextOf
   next-holds first (next.On s) x k h =
       turn-holds first s x _ k (turned-tells limit tolerance s (m .assemble x) (m .attempt x (s .damping))) h

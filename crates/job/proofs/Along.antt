@@ -8,9 +8,10 @@ use mathlib.Core.Path.{_≡_, refl, sym, ap, subst, _∙_}
 use mathlib.Core.List.{List, [], _++_, append-nil, append-assoc}
 use lib.Dec.{eqb}
 use lib.ListN.{length, take, drop, length-append}
+use Rattle.numbers.specs.Walks.{strung}
 use Rattle.numbers.specs.Notation.{if-then}
 use Rattle.numbers.proofs.Tables.{length-table}
-use Rattle.job.specs.Bytes.{valueAt, valuesAt, joined, bytesFrom}
+use Rattle.job.specs.Bytes.{valueAt, valuesAt, bytesFrom}
 use Rattle.job.specs.declared.Tally.{Tally}
 use Rattle.job.specs.declared.Cursor.{Cursor}
 use Rattle.job.specs.declared.Step.the-variants as step
@@ -19,15 +20,15 @@ use Rattle.job.specs.Format.{counted, behind, numbersIf, holding, stepOf
 use Rattle.job.proofs.Stepping.{Kind, settings as of-settings, pose as of-pose, edge as of-edge, fixed as of-fixed, end as of-end}
 use Rattle.job.proofs.Stepping.{Fault-free, fault-free, rises, first, room-for-pose, room-for-edge, room-for-fixed, Went-on, went-on}
 use Rattle.job.proofs.Firsts.{Comes, begins, passes}
-use Rattle.job.proofs.Bytewise.{Bytes, bytesFrom-front, joined-ext, numbers-back, passed, part-join}
+use Rattle.job.proofs.Bytewise.{Bytes, bytesFrom-front, strung-ext, numbers-back, passed, part-join}
 
 -- the records of a job up to so many poses, edges and fixed entries
 abbrev pub recordsOf : Tally → Job → List ℕ
 recordsOf t j =
     settingsRecord (j .settings)
-    ++ joined (poseRecord (j .poses)) (t .poses)
-    ++ joined (edgeRecord (j .ends) (j .edges)) (t .edges)
-    ++ joined (fixedRecord (j .fixed)) (t .fixed)
+    ++ strung (poseRecord (j .poses)) (t .poses)
+    ++ strung (edgeRecord (j .ends) (j .edges)) (t .edges)
+    ++ strung (fixedRecord (j .fixed)) (t .fixed)
 
 pub record Along (room : Tally) (s : List ℕ) (c : Cursor) (j : Job) : Type 0 where
   pub before : c .last ≡ 0 → (c ≡ start) × (j ≡ nothing)
@@ -152,26 +153,26 @@ length-more ns w n at k s e =
     length-append ns (valuesAt w n s at) ∙ ap (λ (x : ℕ). x + length (valuesAt w n s at)) e
     ∙ ap (λ (x : ℕ). k + x) (length-table (λ i. valueAt w s (at + w * i)) n)
 
-poses-before : (n : ℕ) (ns more : List ℕ) → length ns ≡ 12 * n → joined (poseRecord (ns ++ more)) n ≡ joined (poseRecord ns) n
+poses-before : (n : ℕ) (ns more : List ℕ) → length ns ≡ 12 * n → strung (poseRecord (ns ++ more)) n ≡ strung (poseRecord ns) n
 poses-before n ns more e =
-    joined-ext (poseRecord (ns ++ more)) (poseRecord ns) n (λ i h. ap (recordOf 2) (bytesFrom-front 8 12 ns more (12 * i) (omega arith)))
+    strung-ext (poseRecord (ns ++ more)) (poseRecord ns) n (λ i h. ap (recordOf 2) (bytesFrom-front 8 12 ns more (12 * i) (omega arith)))
 
 edges-before : (n : ℕ) (ns more ms more' : List ℕ) → length ns ≡ 2 * n → length ms ≡ 8 * n
-    → joined (edgeRecord (ns ++ more) (ms ++ more')) n ≡ joined (edgeRecord ns ms) n
+    → strung (edgeRecord (ns ++ more) (ms ++ more')) n ≡ strung (edgeRecord ns ms) n
 edges-before n ns more ms more' e d =
-    joined-ext (edgeRecord (ns ++ more) (ms ++ more')) (edgeRecord ns ms) n
+    strung-ext (edgeRecord (ns ++ more) (ms ++ more')) (edgeRecord ns ms) n
     (λ i h.
     ap (λ (x : List ℕ). recordOf 3 (x ++ bytesFrom 4 8 (ms ++ more') (8 * i))) (bytesFrom-front 4 2 ns more (2 * i) (omega arith))
     ∙ ap (λ (x : List ℕ). recordOf 3 (bytesFrom 4 2 ns (2 * i) ++ x)) (bytesFrom-front 4 8 ms more' (8 * i) (omega arith)))
 
-fixed-before : (n : ℕ) (ns more : List ℕ) → length ns ≡ n → joined (fixedRecord (ns ++ more)) n ≡ joined (fixedRecord ns) n
+fixed-before : (n : ℕ) (ns more : List ℕ) → length ns ≡ n → strung (fixedRecord (ns ++ more)) n ≡ strung (fixedRecord ns) n
 fixed-before n ns more e =
-    joined-ext (fixedRecord (ns ++ more)) (fixedRecord ns) n (λ i h. ap (recordOf 4) (bytesFrom-front 4 1 ns more i (omega arith)))
+    strung-ext (fixedRecord (ns ++ more)) (fixedRecord ns) n (λ i h. ap (recordOf 4) (bytesFrom-front 4 1 ns more i (omega arith)))
 
 -- none of a kind has no bytes
-joined-none : (f : ℕ → List ℕ) (n : ℕ) → n ≡ 0 → joined f n ≡ []
-unfolding joined
-joined-none f n e = ap (joined f) e
+strung-none : (f : ℕ → List ℕ) (n : ℕ) → n ≡ 0 → strung f n ≡ []
+unfolding strung
+strung-none f n e = ap (strung f) e
 
 behind-poses : (a b b' c d r : List ℕ) → b' ≡ b → c ≡ [] → d ≡ [] → a ++ b ++ c ++ d ++ r ≡ a ++ (b' ++ r) ++ c ++ d
 behind-poses a b b' c d r x y z =
@@ -187,7 +188,7 @@ behind-fixeds a b c d d' r z = rw z (append-assoc (a ++ b ++ c) d r)
 
 module _ (room : Tally) (s : List ℕ) where
   along-settings : kindAt s 0 ≡ 1 → lengthAt s 0 ≡ 16 → 0 + 4 + 16 ≤ length s → Along room s (cursorAt 20 1 0 0 0) (jobWith (valuesAt 4 4 s 4) [] [] [] [])
-  unfolding joined
+  unfolding strung
   along-settings k l h =
       record {
         before = λ e. absurd (omega arith);
@@ -214,7 +215,7 @@ module _ (room : Tally) (s : List ℕ) where
     along-pose : c .last ≤ 2 → c .had .poses < room .poses → c .at + 4 + 96 ≤ length s → kindAt s (c .at) ≡ 2 → lengthAt s (c .at) ≡ 96
         → Along room s (cursorAt (c .at + 4 + 96) 2 (suc (c .had .poses)) (c .had .edges) (c .had .fixed))
         (jobWith (j .settings) (j .poses ++ valuesAt 8 12 s (c .at + 4)) (j .ends) (j .edges) (j .fixed))
-    unfolding joined
+    unfolding strung
     along-pose m free h k l =
         let e0 : c .had .edges ≡ 0 = a .no-edges (omega arith) in
         let f0 : c .had .fixed ≡ 0 = a .no-fixed (omega arith) in
@@ -237,17 +238,17 @@ module _ (room : Tally) (s : List ℕ) where
               let more = valuesAt 8 12 s (c .at + 4) in
               passed s b (c .at) 2 96 (bytesFrom 8 12 (j .poses ++ more) (12 * c .had .poses)) (recordsOf (c .had) j) h k l
               (numbers-back s b 8 12 (c .at + 4) (12 * c .had .poses) (j .poses) (a .poses) h) (a .bytes b some)
-              ∙ behind-poses (settingsRecord (j .settings)) (joined (poseRecord (j .poses)) (c .had .poses))
-              (joined (poseRecord (j .poses ++ more)) (c .had .poses)) (joined (edgeRecord (j .ends) (j .edges)) (c .had .edges))
-              (joined (fixedRecord (j .fixed)) (c .had .fixed)) (poseRecord (j .poses ++ more) (c .had .poses))
+              ∙ behind-poses (settingsRecord (j .settings)) (strung (poseRecord (j .poses)) (c .had .poses))
+              (strung (poseRecord (j .poses ++ more)) (c .had .poses)) (strung (edgeRecord (j .ends) (j .edges)) (c .had .edges))
+              (strung (fixedRecord (j .fixed)) (c .had .fixed)) (poseRecord (j .poses ++ more) (c .had .poses))
               (poses-before (c .had .poses) (j .poses) more (a .poses))
-              (joined-none (edgeRecord (j .ends) (j .edges)) (c .had .edges) e0) (joined-none (fixedRecord (j .fixed)) (c .had .fixed) f0);
+              (strung-none (edgeRecord (j .ends) (j .edges)) (c .had .edges) e0) (strung-none (fixedRecord (j .fixed)) (c .had .fixed) f0);
         }
 
     along-edge : c .last ≤ 3 → c .had .edges < room .edges → c .at + 4 + 40 ≤ length s → kindAt s (c .at) ≡ 3 → lengthAt s (c .at) ≡ 40
         → Along room s (cursorAt (c .at + 4 + 40) 3 (c .had .poses) (suc (c .had .edges)) (c .had .fixed))
         (jobWith (j .settings) (j .poses) (j .ends ++ valuesAt 4 2 s (c .at + 4)) (j .edges ++ valuesAt 4 8 s (c .at + 12)) (j .fixed))
-    unfolding joined
+    unfolding strung
     along-edge m free h k l =
         let f0 : c .had .fixed ≡ 0 = a .no-fixed (omega arith) in
         record {
@@ -275,17 +276,17 @@ module _ (room : Tally) (s : List ℕ) where
               (numbers-back s b 4 2 (c .at + 4) (2 * c .had .edges) (j .ends) (a .ends) (omega arith))
               (numbers-back s b 4 8 (c .at + 12) (8 * c .had .edges) (j .edges) (a .edges) (omega arith) ∙ ap (λ (y : ℕ). take 32 (drop y s)) x))
               (a .bytes b some)
-              ∙ behind-edges (settingsRecord (j .settings)) (joined (poseRecord (j .poses)) (c .had .poses))
-              (joined (edgeRecord (j .ends) (j .edges)) (c .had .edges)) (joined (edgeRecord (j .ends ++ more) (j .edges ++ more')) (c .had .edges))
-              (joined (fixedRecord (j .fixed)) (c .had .fixed)) (edgeRecord (j .ends ++ more) (j .edges ++ more') (c .had .edges))
+              ∙ behind-edges (settingsRecord (j .settings)) (strung (poseRecord (j .poses)) (c .had .poses))
+              (strung (edgeRecord (j .ends) (j .edges)) (c .had .edges)) (strung (edgeRecord (j .ends ++ more) (j .edges ++ more')) (c .had .edges))
+              (strung (fixedRecord (j .fixed)) (c .had .fixed)) (edgeRecord (j .ends ++ more) (j .edges ++ more') (c .had .edges))
               (edges-before (c .had .edges) (j .ends) more (j .edges) more' (a .ends) (a .edges))
-              (joined-none (fixedRecord (j .fixed)) (c .had .fixed) f0);
+              (strung-none (fixedRecord (j .fixed)) (c .had .fixed) f0);
         }
 
     along-fixed : c .last ≤ 4 → c .had .fixed < room .fixed → c .at + 4 + 4 ≤ length s → kindAt s (c .at) ≡ 4 → lengthAt s (c .at) ≡ 4
         → Along room s (cursorAt (c .at + 4 + 4) 4 (c .had .poses) (c .had .edges) (suc (c .had .fixed)))
         (jobWith (j .settings) (j .poses) (j .ends) (j .edges) (j .fixed ++ valuesAt 4 1 s (c .at + 4)))
-    unfolding joined
+    unfolding strung
     along-fixed m free h k l =
         record {
           before = λ e. absurd (omega arith);
@@ -306,9 +307,9 @@ module _ (room : Tally) (s : List ℕ) where
               let more = valuesAt 4 1 s (c .at + 4) in
               passed s b (c .at) 4 4 (bytesFrom 4 1 (j .fixed ++ more) (c .had .fixed)) (recordsOf (c .had) j) h k l
               (numbers-back s b 4 1 (c .at + 4) (c .had .fixed) (j .fixed) (a .fixed) h) (a .bytes b some)
-              ∙ behind-fixeds (settingsRecord (j .settings)) (joined (poseRecord (j .poses)) (c .had .poses))
-              (joined (edgeRecord (j .ends) (j .edges)) (c .had .edges)) (joined (fixedRecord (j .fixed)) (c .had .fixed))
-              (joined (fixedRecord (j .fixed ++ more)) (c .had .fixed)) (fixedRecord (j .fixed ++ more) (c .had .fixed))
+              ∙ behind-fixeds (settingsRecord (j .settings)) (strung (poseRecord (j .poses)) (c .had .poses))
+              (strung (edgeRecord (j .ends) (j .edges)) (c .had .edges)) (strung (fixedRecord (j .fixed)) (c .had .fixed))
+              (strung (fixedRecord (j .fixed ++ more)) (c .had .fixed)) (fixedRecord (j .fixed ++ more) (c .had .fixed))
               (fixed-before (c .had .fixed) (j .fixed) more (a .fixed));
         }
 

@@ -10,15 +10,15 @@ use lib.Dec.{lit<}
 use lib.ListN.{length, getD, take, length-append}
 use lib.Seq.{take-suc, take-all}
 use Rattle.numbers.specs.Notation.{if-then}
-use Rattle.numbers.specs.Walks.{table}
+use Rattle.numbers.specs.Walks.{table, strung}
 use Rattle.numbers.specs.declared.Verdict.the-variants as verdict
 use Rattle.job.specs.declared.Tally.{Tally}
 use Rattle.job.specs.declared.Cursor.{Cursor}
 use Rattle.job.specs.declared.Step.the-variants as step
-use Rattle.job.specs.Bytes.{valuesAt, joined, bytesFrom}
+use Rattle.job.specs.Bytes.{valuesAt, bytesFrom}
 use Rattle.job.specs.Format.{Job, nothing, tallyOf, settingsRecord, poseRecord, edgeRecord, fixedRecord, endRecord, encoded}
 use Rattle.job.specs.Format.{kindAt, isRecord, mayFollow, isFull, faultOf, start, counted, stepFrom, stepOf, holding, taken, reading, CursorIn}
-use Rattle.job.proofs.Pasting.{length-joined}
+use Rattle.job.proofs.Pasting.{length-strung}
 use Rattle.job.proofs.Stepping.{from, from-start, from-on, from-done, cursor-start}
 use Rattle.job.proofs.Encoding.{length-bytesFrom, length-recordOf, length-settingsRecord, length-poseRecord, length-edgeRecord, length-fixedRecord}
 use Rattle.job.proofs.Bytewise.{Bytes}
@@ -138,13 +138,13 @@ module _ (room : Tally) (j : Job) (p e f : ℕ) (s : List ℕ) where
   settings-part = settingsRecord (j .settings)
 
   abbrev poses-part : List ℕ
-  poses-part = joined (poseRecord (j .poses)) p
+  poses-part = strung (poseRecord (j .poses)) p
 
   abbrev edges-part : List ℕ
-  edges-part = joined (edgeRecord (j .ends) (j .edges)) e
+  edges-part = strung (edgeRecord (j .ends) (j .edges)) e
 
   abbrev fixed-part : List ℕ
-  fixed-part = joined (fixedRecord (j .fixed)) f
+  fixed-part = strung (fixedRecord (j .fixed)) f
 
   abbrev to-poses : List ℕ
   to-poses = settings-part ++ poses-part
@@ -158,16 +158,16 @@ module _ (room : Tally) (j : Job) (p e f : ℕ) (s : List ℕ) where
   length-to-poses : length to-poses ≡ 20 + 100 * p
   length-to-poses =
       length-append settings-part poses-part
-      ∙ omega (arith, length-settingsRecord (j .settings), length-joined (poseRecord (j .poses)) 100 p (length-poseRecord (j .poses)))
+      ∙ omega (arith, length-settingsRecord (j .settings), length-strung (poseRecord (j .poses)) 100 p (length-poseRecord (j .poses)))
 
   length-to-edges : length to-edges ≡ 20 + 100 * p + 44 * e
   length-to-edges =
       length-append to-poses edges-part
-      ∙ omega (arith, length-to-poses, length-joined (edgeRecord (j .ends) (j .edges)) 44 e (length-edgeRecord (j .ends) (j .edges)))
+      ∙ omega (arith, length-to-poses, length-strung (edgeRecord (j .ends) (j .edges)) 44 e (length-edgeRecord (j .ends) (j .edges)))
 
   length-to-fixed : length to-fixed ≡ 20 + 100 * p + 44 * e + 8 * f
   length-to-fixed =
-      length-append to-edges fixed-part ∙ omega (arith, length-to-edges, length-joined (fixedRecord (j .fixed)) 8 f (length-fixedRecord (j .fixed)))
+      length-append to-edges fixed-part ∙ omega (arith, length-to-edges, length-strung (fixedRecord (j .fixed)) 8 f (length-fixedRecord (j .fixed)))
 
   module _ (is : s ≡ to-fixed ++ endRecord) (four : length (j .settings) ≡ 4)
       (poses-whole : length (j .poses) ≡ 12 * p) (ends-whole : length (j .ends) ≡ 2 * e) (edges-whole : length (j .edges) ≡ 8 * e)

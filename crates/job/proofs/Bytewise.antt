@@ -7,8 +7,9 @@ use mathlib.Core.List.{List, _++_}
 use lib.Dec.{lit<}
 use lib.ListN.{length, getD, take, drop, length-take, length-drop, List·getD-append}
 use lib.Seq.{drop-cons, take-add, drop-drop, getD-append-add}
+use Rattle.numbers.specs.Walks.{strung}
 use Rattle.numbers.proofs.Tables.{getD-table}
-use Rattle.job.specs.Bytes.{valueAt, valuesAt, bytesOf, joined, bytesFrom}
+use Rattle.job.specs.Bytes.{valueAt, valuesAt, bytesOf, bytesFrom}
 use Rattle.job.specs.Format.{lengthAt, kindAt, recordOf}
 
 -- every number of s is a byte
@@ -35,10 +36,10 @@ bytes-value (suc w) s at b h =
 
 -- ---- one behind the other
 
-pub joined-ext : (f g : ℕ → List ℕ) (n : ℕ) → ((i : ℕ) → i < n → f i ≡ g i) → joined f n ≡ joined g n
-unfolding joined
-joined-ext f g zero h = refl
-joined-ext f g (suc n) h = rw (joined-ext f g n (λ i l. h i (omega arith)), h n (omega arith))
+pub strung-ext : (f g : ℕ → List ℕ) (n : ℕ) → ((i : ℕ) → i < n → f i ≡ g i) → strung f n ≡ strung g n
+unfolding strung
+strung-ext f g zero h = refl
+strung-ext f g (suc n) h = rw (strung-ext f g n (λ i l. h i (omega arith)), h n (omega arith))
 
 -- two parts that meet are one
 pub part-join : (at n m : ℕ) (s x y : List ℕ) → x ≡ take n (drop at s) → y ≡ take m (drop (at + n) s) → x ++ y ≡ take (n + m) (drop at s)
@@ -50,16 +51,16 @@ part-length at n s h = simp (length-take, length-drop) (omega arith)
 -- numbers behind do not change the bytes of those in front
 pub bytesFrom-front : (w n : ℕ) (ns more : List ℕ) (from : ℕ) → from + n ≤ length ns → bytesFrom w n (ns ++ more) from ≡ bytesFrom w n ns from
 bytesFrom-front w n ns more from h =
-    joined-ext (λ i. bytesOf w (getD (ns ++ more) (from + i) 0)) (λ i. bytesOf w (getD ns (from + i) 0)) n
+    strung-ext (λ i. bytesOf w (getD (ns ++ more) (from + i) 0)) (λ i. bytesOf w (getD ns (from + i) 0)) n
     (λ i l. ap (bytesOf w) (List·getD-append ns more 0 (from + i) (omega arith)))
 
 module _ (s : List ℕ) (b : Bytes s) where
-  values-bytes : (w n at : ℕ) → at + w * n ≤ length s → joined (λ i. bytesOf w (valueAt w s (at + w * i))) n ≡ take (w * n) (drop at s)
-  unfolding joined
+  values-bytes : (w n at : ℕ) → at + w * n ≤ length s → strung (λ i. bytesOf w (valueAt w s (at + w * i))) n ≡ take (w * n) (drop at s)
+  unfolding strung
   values-bytes w zero at h = rw (mul-zero w) refl
   values-bytes w (suc n) at h =
       let z : w * n + w ≡ w * suc n = omega arith in
-      part-join at (w * n) w s (joined (λ i. bytesOf w (valueAt w s (at + w * i))) n) (bytesOf w (valueAt w s (at + w * n)))
+      part-join at (w * n) w s (strung (λ i. bytesOf w (valueAt w s (at + w * i))) n) (bytesOf w (valueAt w s (at + w * n)))
       (values-bytes w n at (omega arith)) (bytes-value w s (at + w * n) b (omega arith))
       ∙ ap (λ (k : ℕ). take k (drop at s)) z
 
@@ -67,7 +68,7 @@ module _ (s : List ℕ) (b : Bytes s) where
   pub numbers-back : (w n at from : ℕ) (ns : List ℕ) → length ns ≡ from → at + w * n ≤ length s
       → bytesFrom w n (ns ++ valuesAt w n s at) from ≡ take (w * n) (drop at s)
   numbers-back w n at from ns e h =
-      joined-ext (λ i. bytesOf w (getD (ns ++ valuesAt w n s at) (from + i) 0)) (λ i. bytesOf w (valueAt w s (at + w * i))) n
+      strung-ext (λ i. bytesOf w (getD (ns ++ valuesAt w n s at) (from + i) 0)) (λ i. bytesOf w (valueAt w s (at + w * i))) n
       (λ i l.
       ap (bytesOf w)
       (subst (λ (k : ℕ). getD (ns ++ valuesAt w n s at) (k + i) 0 ≡ valueAt w s (at + w * i)) e

@@ -4,9 +4,10 @@ use native.Mathlib.Omega.{arith}
 use mathlib.Core.Path.{_≡_, refl, ap}
 use mathlib.Core.List.{List, [], _∷_, _++_}
 use lib.ListN.{length, getD, length-append}
-use Rattle.job.specs.Bytes.{bytesOf, bytesFrom, joined}
+use Rattle.numbers.specs.Walks.{strung}
+use Rattle.job.specs.Bytes.{bytesOf, bytesFrom}
 use Rattle.job.specs.Format.{Job, tallyOf, recordOf, settingsRecord, poseRecord, edgeRecord, fixedRecord, endRecord, encoded, sizeOf}
-use Rattle.job.proofs.Pasting.{length-joined}
+use Rattle.job.proofs.Pasting.{length-strung}
 
 -- ---- one number
 
@@ -34,7 +35,7 @@ bytesOf-more (suc i) x = ap (λ (t : List ℕ). x % 256 ∷ t) (bytesOf-more i (
 -- ---- numbers and records
 
 pub length-bytesFrom : (w n : ℕ) (ns : List ℕ) (from : ℕ) → length (bytesFrom w n ns from) ≡ w * n
-length-bytesFrom w n ns from = length-joined (λ i. bytesOf w (getD ns (from + i) 0)) w n (λ i. length-bytesOf w (getD ns (from + i) 0))
+length-bytesFrom w n ns from = length-strung (λ i. bytesOf w (getD ns (from + i) 0)) w n (λ i. length-bytesOf w (getD ns (from + i) 0))
 
 pub length-recordOf : (kind : ℕ) (body : List ℕ) → length (recordOf kind body) ≡ 4 + length body
 length-recordOf kind body = simp (length-append, length-bytesOf)
@@ -54,14 +55,14 @@ length-fixedRecord fixed i = rw (length-recordOf, length-bytesFrom)
 pub length-endRecord : length endRecord ≡ 4
 length-endRecord = length-recordOf 5 []
 
-pub length-poses : (poses : List ℕ) (n : ℕ) → length (joined (poseRecord poses) n) ≡ 100 * n
-length-poses poses n = length-joined (poseRecord poses) 100 n (length-poseRecord poses)
+pub length-poses : (poses : List ℕ) (n : ℕ) → length (strung (poseRecord poses) n) ≡ 100 * n
+length-poses poses n = length-strung (poseRecord poses) 100 n (length-poseRecord poses)
 
-pub length-edges : (ends edges : List ℕ) (n : ℕ) → length (joined (edgeRecord ends edges) n) ≡ 44 * n
-length-edges ends edges n = length-joined (edgeRecord ends edges) 44 n (length-edgeRecord ends edges)
+pub length-edges : (ends edges : List ℕ) (n : ℕ) → length (strung (edgeRecord ends edges) n) ≡ 44 * n
+length-edges ends edges n = length-strung (edgeRecord ends edges) 44 n (length-edgeRecord ends edges)
 
-pub length-fixed : (fixed : List ℕ) (n : ℕ) → length (joined (fixedRecord fixed) n) ≡ 8 * n
-length-fixed fixed n = length-joined (fixedRecord fixed) 8 n (length-fixedRecord fixed)
+pub length-fixed : (fixed : List ℕ) (n : ℕ) → length (strung (fixedRecord fixed) n) ≡ 8 * n
+length-fixed fixed n = length-strung (fixedRecord fixed) 8 n (length-fixedRecord fixed)
 
 -- ---- the whole job
 

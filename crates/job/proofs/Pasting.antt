@@ -1,12 +1,14 @@
 -- The laws of lists put into another: nothing put, one number stored, one list behind the other, and lengths. Assumes nothing.
 use Prim.Native.Nat.{ℕ, zero, suc, _+_, _*_, _-_, _≤_, _<_}
 use native.Mathlib.Omega.{arith}
-use native.Mathlib.Nat.{add-zero}
+use native.Mathlib.Nat.{add-zero, mul-comm}
 use mathlib.Core.Path.{_≡_, refl, sym, ap, _∙_}
 use mathlib.Core.List.{List, [], _∷_, _++_, append-assoc, append-nil}
 use lib.ListN.{length, take, drop, set, length-append, length-drop}
 use lib.Seq.{length-take-le, take-at, drop-at, drop-drop, set-split}
-use Rattle.job.specs.Bytes.{pasted, joined}
+use Rattle.numbers.specs.Walks.{strung}
+use Rattle.numbers.proofs.Strung.{strung-long}
+use Rattle.job.specs.Bytes.{pasted}
 
 -- the two parts of a list, one behind the other
 pub take-drop : (n : ℕ) (l : List ℕ) → take n l ++ drop n l ≡ l
@@ -48,7 +50,5 @@ pasted-set at p v xs l e h =
     set-pasted (pasted at xs l) p v (omega arith) ∙ pasted-more at p xs (v ∷ []) l e (omega arith)
 
 -- records all as long as each other
-pub length-joined : (f : ℕ → List ℕ) (z n : ℕ) → ((i : ℕ) → length (f i) ≡ z) → length (joined f n) ≡ z * n
-unfolding joined
-length-joined f z zero h = omega arith
-length-joined f z (suc n) h = rw (length-append, length-joined f z n h, h n) (omega arith)
+pub length-strung : (f : ℕ → List ℕ) (z n : ℕ) → ((i : ℕ) → length (f i) ≡ z) → length (strung f n) ≡ z * n
+length-strung f z n h = strung-long f z h n ∙ mul-comm n z

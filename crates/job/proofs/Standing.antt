@@ -8,11 +8,11 @@ use mathlib.Core.Logic.{⊎-elim}
 use mathlib.Core.List.{List, [], _∷_, _++_, append-assoc, append-nil}
 use lib.ListN.{length, length-append}
 use lib.Seq.{getD-append-add}
-use Rattle.numbers.specs.Walks.{table}
+use Rattle.numbers.specs.Walks.{table, strung}
 use Rattle.numbers.proofs.Tables.{table-ext}
-use Rattle.job.specs.Bytes.{valueAt, valuesAt, bytesOf, joined}
+use Rattle.job.specs.Bytes.{valueAt, valuesAt, bytesOf}
 use Rattle.job.specs.Format.{recordOf, kindAt, lengthAt}
-use Rattle.job.proofs.Pasting.{length-joined}
+use Rattle.job.proofs.Pasting.{length-strung}
 use Rattle.job.proofs.Encoding.{length-bytesOf}
 
 -- ---- a number as bytes
@@ -73,12 +73,12 @@ stands-second a b n e h =
 
 -- each of a row, all as long as each other
 pub stands-each : {s : List ℕ} {at : ℕ} (r : ℕ → List ℕ) (z n i : ℕ) → ((k : ℕ) → length (r k) ≡ z) → i < n
-    → Stands s at (joined r n) → Stands s (at + z * i) (r i)
-unfolding joined
+    → Stands s at (strung r n) → Stands s (at + z * i) (r i)
+unfolding strung
 stands-each r z zero i l p h = absurd (let y : ⊥ = omega arith in y)
 stands-each {s} {at} r z (suc n) i l p h =
-    ⊎-elim (λ q. subst (λ (k : ℕ). Stands s (at + z * k) (r k)) (sym q) (stands-second (joined r n) (r n) (z * n) (length-joined r z n l) h))
-    (λ q. stands-each r z n i l q (stands-first (joined r n) (r n) h))
+    ⊎-elim (λ q. subst (λ (k : ℕ). Stands s (at + z * k) (r k)) (sym q) (stands-second (strung r n) (r n) (z * n) (length-strung r z n l) h))
+    (λ q. stands-each r z n i l q (stands-first (strung r n) (r n) h))
     (eq-or-lt-of-le (let y : i ≤ n = omega arith in y))
 
 pub stands-within : {s r : List ℕ} {at : ℕ} → Stands s at r → at + length r ≤ length s
@@ -97,7 +97,7 @@ value-stands {s} {at} w x l h =
     ∙ value-behind w (h .before) (bytesOf w x ++ h .rest) 0
     ∙ value-bytes w x (h .rest) l
 
-pub values-stand : {s : List ℕ} {at : ℕ} (w : ℕ) (x : ℕ → ℕ) (n : ℕ) → ((k : ℕ) → x k < 256 ^ w) → Stands s at (joined (λ k. bytesOf w (x k)) n)
+pub values-stand : {s : List ℕ} {at : ℕ} (w : ℕ) (x : ℕ → ℕ) (n : ℕ) → ((k : ℕ) → x k < 256 ^ w) → Stands s at (strung (λ k. bytesOf w (x k)) n)
     → valuesAt w n s at ≡ table x n
 values-stand {s} {at} w x n l h =
     table-ext 0 (λ k. valueAt w s (at + w * k)) x n

@@ -9,7 +9,8 @@ use mathlib.Core.List.{List, [], _∷_, _++_, append-nil}
 use lib.Dec.{ltb, eqb}
 use borrow.Author.Tests.{ltb-true, ltb-false, lt-ltb, le-ltb, eq-eqb, eqb-true, not-false}
 use lib.ListN.{length, getD, set, length-append}
-use Rattle.job.specs.Bytes.{bytesOf, bytesFrom, joined, pasted}
+use Rattle.numbers.specs.Walks.{strung}
+use Rattle.job.specs.Bytes.{bytesOf, bytesFrom, pasted}
 use Rattle.job.specs.Format.{Job, tallyOf, recordOf, settingsRecord, poseRecord, edgeRecord, fixedRecord, encoded, sizeOf}
 use Rattle.job.specs.Format.{writeRows, writtenAs, writtenInto}
 use Rattle.job.specs.declared.Tally.{Tally}
@@ -20,7 +21,7 @@ use Rattle.numbers.specs.declared.Verdict.{Verdict}
 use Rattle.numbers.specs.declared.Verdict.the-variants as verdict
 use Rattle.numbers.proofs.Reading.{row-at, row-fault}
 use Rattle.graph.specs.Table.{unfit}
-use Rattle.job.proofs.Pasting.{pasted-more, pasted-set, length-pasted, length-joined}
+use Rattle.job.proofs.Pasting.{pasted-more, pasted-set, length-pasted, length-strung}
 use Rattle.job.proofs.Encoding.{shifted, length-encoded, length-bytesOf, bytesOf-more, length-bytesFrom}
 use Rattle.job.proofs.Encoding.{length-settingsRecord, length-poseRecord, length-edgeRecord, length-fixedRecord}
 use Rattle.job.proofs.Encoding.{length-poses, length-edges, length-fixed}
@@ -41,12 +42,12 @@ turn-fits z i n at m h r =
 
 -- one turn of a loop that puts parts all as long as each other
 pub part-put : (f : ℕ → List ℕ) (z i at : ℕ) (l m : List ℕ) → ((k : ℕ) → length (f k) ≡ z) →
-    at + z * i + z ≤ length m → l ≡ pasted at (joined f i) m → pasted (at + z * i) (f i) l ≡ pasted at (joined f (i + 1)) m
-unfolding joined
+    at + z * i + z ≤ length m → l ≡ pasted at (strung f i) m → pasted (at + z * i) (f i) l ≡ pasted at (strung f (i + 1)) m
+unfolding strung
 part-put f z i at l m h s e =
-    let j : length (joined f i) ≡ z * i = length-joined f z i h in
+    let j : length (strung f i) ≡ z * i = length-strung f z i h in
     let k : length (f i) ≡ z = h i in
-    rw (e, add-one i) (pasted-more at (at + z * i) (joined f i) (f i) m (omega arith) (omega arith))
+    rw (e, add-one i) (pasted-more at (at + z * i) (strung f i) (f i) m (omega arith) (omega arith))
 
 -- one number more
 pub number-put : (w i at from : ℕ) (ns l m : List ℕ) → at + w * i + w ≤ length m → l ≡ pasted at (bytesFrom w i ns from) m →
@@ -71,18 +72,18 @@ record-put kind n at body l e h =
 
 -- one pose, edge or fixed entry more
 pub pose-put : (poses : List ℕ) (at i : ℕ) (l m : List ℕ) →
-    length l ≡ length m → at + 100 * i + 100 ≤ length m → l ≡ pasted at (joined (poseRecord poses) i) m →
+    length l ≡ length m → at + 100 * i + 100 ≤ length m → l ≡ pasted at (strung (poseRecord poses) i) m →
     pasted (at + 100 * i + 4) (bytesFrom 8 12 poses (12 * i)) (pasted (at + 100 * i) (bytesOf 2 96 ++ bytesOf 2 2) l)
-    ≡ pasted at (joined (poseRecord poses) (i + 1)) m
+    ≡ pasted at (strung (poseRecord poses) (i + 1)) m
 pose-put poses at i l m n h e =
     record-put 2 96 (at + 100 * i) (bytesFrom 8 12 poses (12 * i)) l (length-bytesFrom 8 12 poses (12 * i)) (omega arith)
     ∙ part-put (poseRecord poses) 100 i at l m (length-poseRecord poses) h e
 
 pub edge-put : (ends edges : List ℕ) (at i : ℕ) (l m : List ℕ) →
-    length l ≡ length m → at + 44 * i + 44 ≤ length m → l ≡ pasted at (joined (edgeRecord ends edges) i) m →
+    length l ≡ length m → at + 44 * i + 44 ≤ length m → l ≡ pasted at (strung (edgeRecord ends edges) i) m →
     pasted (at + 44 * i + 12) (bytesFrom 4 8 edges (8 * i))
     (pasted (at + 44 * i + 4) (bytesFrom 4 2 ends (2 * i)) (pasted (at + 44 * i) (bytesOf 2 40 ++ bytesOf 2 3) l))
-    ≡ pasted at (joined (edgeRecord ends edges) (i + 1)) m
+    ≡ pasted at (strung (edgeRecord ends edges) (i + 1)) m
 edge-put ends edges at i l m n h e =
     let x = bytesFrom 4 2 ends (2 * i) in
     let y = bytesFrom 4 8 edges (8 * i) in
@@ -97,8 +98,8 @@ edge-put ends edges at i l m n h e =
     ∙ part-put (edgeRecord ends edges) 44 i at l m (length-edgeRecord ends edges) h e
 
 pub fixed-put : (fixed : List ℕ) (at i : ℕ) (l m : List ℕ) →
-    length l ≡ length m → at + 8 * i + 8 ≤ length m → l ≡ pasted at (joined (fixedRecord fixed) i) m →
-    pasted (at + 8 * i + 4) (bytesFrom 4 1 fixed i) (pasted (at + 8 * i) (bytesOf 2 4 ++ bytesOf 2 4) l) ≡ pasted at (joined (fixedRecord fixed) (i + 1)) m
+    length l ≡ length m → at + 8 * i + 8 ≤ length m → l ≡ pasted at (strung (fixedRecord fixed) i) m →
+    pasted (at + 8 * i + 4) (bytesFrom 4 1 fixed i) (pasted (at + 8 * i) (bytesOf 2 4 ++ bytesOf 2 4) l) ≡ pasted at (strung (fixedRecord fixed) (i + 1)) m
 fixed-put fixed at i l m n h e =
     record-put 4 4 (at + 8 * i) (bytesFrom 4 1 fixed i) l (length-bytesFrom 4 1 fixed i) (omega arith)
     ∙ part-put (fixedRecord fixed) 8 i at l m (length-fixedRecord fixed) h e
@@ -110,16 +111,16 @@ settings-put settings l h = record-put 1 16 0 (bytesFrom 4 4 settings 0) l (leng
 -- the parts of a job, one behind the other
 parts-put : (j : Job) (l : List ℕ) → sizeOf (tallyOf j) ≤ length l →
     pasted (20 + 100 * tallyOf j .poses + 44 * tallyOf j .edges + 8 * tallyOf j .fixed) (bytesOf 2 0 ++ bytesOf 2 5)
-    (pasted (20 + 100 * tallyOf j .poses + 44 * tallyOf j .edges) (joined (fixedRecord (j .fixed)) (tallyOf j .fixed))
-    (pasted (20 + 100 * tallyOf j .poses) (joined (edgeRecord (j .ends) (j .edges)) (tallyOf j .edges))
-    (pasted 20 (joined (poseRecord (j .poses)) (tallyOf j .poses)) (pasted 0 (settingsRecord (j .settings)) l))))
+    (pasted (20 + 100 * tallyOf j .poses + 44 * tallyOf j .edges) (strung (fixedRecord (j .fixed)) (tallyOf j .fixed))
+    (pasted (20 + 100 * tallyOf j .poses) (strung (edgeRecord (j .ends) (j .edges)) (tallyOf j .edges))
+    (pasted 20 (strung (poseRecord (j .poses)) (tallyOf j .poses)) (pasted 0 (settingsRecord (j .settings)) l))))
     ≡ pasted 0 (encoded j) l
 unfolding encoded
 parts-put j l h =
     let S = settingsRecord (j .settings) in
-    let P = joined (poseRecord (j .poses)) (tallyOf j .poses) in
-    let E = joined (edgeRecord (j .ends) (j .edges)) (tallyOf j .edges) in
-    let F = joined (fixedRecord (j .fixed)) (tallyOf j .fixed) in
+    let P = strung (poseRecord (j .poses)) (tallyOf j .poses) in
+    let E = strung (edgeRecord (j .ends) (j .edges)) (tallyOf j .edges) in
+    let F = strung (fixedRecord (j .fixed)) (tallyOf j .fixed) in
     let Z = bytesOf 2 0 ++ bytesOf 2 5 in
     let a = 20 + 100 * tallyOf j .poses in
     let b = a + 44 * tallyOf j .edges in
@@ -140,9 +141,9 @@ parts-put j l h =
 
 pub job-put : (j : Job) (t : Tally) (l : List ℕ) → t ≡ tallyOf j → sizeOf t ≤ length l →
     pasted (20 + 100 * t .poses + 44 * t .edges + 8 * length (j .fixed)) (bytesOf 2 0 ++ bytesOf 2 5)
-    (pasted (20 + 100 * t .poses + 44 * t .edges) (joined (fixedRecord (j .fixed)) (length (j .fixed)))
-    (pasted (20 + 100 * t .poses) (joined (edgeRecord (j .ends) (j .edges)) (t .edges))
-    (pasted 20 (joined (poseRecord (j .poses)) (t .poses)) (pasted 0 (settingsRecord (j .settings)) l))))
+    (pasted (20 + 100 * t .poses + 44 * t .edges) (strung (fixedRecord (j .fixed)) (length (j .fixed)))
+    (pasted (20 + 100 * t .poses) (strung (edgeRecord (j .ends) (j .edges)) (t .edges))
+    (pasted 20 (strung (poseRecord (j .poses)) (t .poses)) (pasted 0 (settingsRecord (j .settings)) l))))
     ≡ pasted 0 (encoded j) l
 job-put j t l e h = rw e (parts-put j l (rw e at h))
 

@@ -2,7 +2,7 @@
 use Prim.Native.Nat.{ℕ, zero, suc, _+_, _*_, _/_, _%_}
 use mathlib.Core.List.{List, [], _∷_, _++_}
 use lib.ListN.{length, getD, take, drop}
-use Rattle.numbers.specs.Walks.{table}
+use Rattle.numbers.specs.Walks.{table, strung}
 
 -- the number that the w bytes of s from a place on stand for
 unfoldable pub valueAt : ℕ → List ℕ → ℕ → ℕ
@@ -18,14 +18,9 @@ unfoldable pub bytesOf : ℕ → ℕ → List ℕ
 bytesOf zero x = []
 bytesOf (suc w) x = x % 256 ∷ bytesOf w (x / 256)
 
--- f 0, f 1, .. f (n - 1), one behind the other
-unfoldable pub joined : (ℕ → List ℕ) → ℕ → List ℕ
-joined f zero = []
-joined f (suc n) = joined f n ++ f n
-
 -- n numbers of ns, from an index on, as w bytes each
 abbrev pub bytesFrom : ℕ → ℕ → List ℕ → ℕ → List ℕ
-bytesFrom w n ns from = joined (λ i. bytesOf w (getD ns (from + i) 0)) n
+bytesFrom w n ns from = strung (λ i. bytesOf w (getD ns (from + i) 0)) n
 
 -- l with ys in it, from a place on
 unfoldable pub pasted : ℕ → List ℕ → List ℕ → List ℕ

@@ -5,13 +5,14 @@ use mathlib.Core.Bool.{Bool, not, _&&_, _||_}
 use mathlib.Core.List.{List, [], _∷_, _++_}
 use lib.Dec.{eqb, ltb, leb}
 use lib.ListN.{length, getD}
+use Rattle.numbers.specs.Walks.{strung}
 use Rattle.numbers.specs.Notation.{if-then}
 use Rattle.numbers.specs.Refusals.{refusal, Fault, fault, says, Row, row, verdict}
 use Rattle.numbers.specs.declared.Refusal.{Refusal}
 use Rattle.numbers.specs.declared.Verdict.{Verdict}
 use Rattle.numbers.specs.declared.Verdict.the-variants as verdict
 use Rattle.graph.specs.Table.{unfit}
-use Rattle.job.specs.Bytes.{valueAt, valuesAt, bytesOf, joined, bytesFrom, pasted}
+use Rattle.job.specs.Bytes.{valueAt, valuesAt, bytesOf, bytesFrom, pasted}
 use Rattle.job.specs.declared.Tally.{Tally}
 use Rattle.job.specs.declared.Cursor.{Cursor}
 use Rattle.job.specs.declared.SettingBits.{SettingBits}
@@ -70,9 +71,9 @@ endRecord = recordOf 5 []
 unfoldable pub encoded : Job → List ℕ
 encoded j =
     settingsRecord (j .settings)
-    ++ joined (poseRecord (j .poses)) (tallyOf j .poses)
-    ++ joined (edgeRecord (j .ends) (j .edges)) (tallyOf j .edges)
-    ++ joined (fixedRecord (j .fixed)) (tallyOf j .fixed)
+    ++ strung (poseRecord (j .poses)) (tallyOf j .poses)
+    ++ strung (edgeRecord (j .ends) (j .edges)) (tallyOf j .edges)
+    ++ strung (fixedRecord (j .fixed)) (tallyOf j .fixed)
     ++ endRecord
 
 -- the bytes of a job of so many poses, edges and fixed entries

@@ -5,7 +5,8 @@ ghost use Prim.Native.Nat.{_+_, _*_, _/_, _<_, _≤_, _^_, min};
 ghost use lib.Dec.{ltb};
 ghost use lib.ListN.{length};
 ghost use Rattle.numbers.specs.Refusals.{refusal, says};
-ghost use Rattle.job.specs.Bytes.{valueAt, valuesAt, bytesOf, bytesFrom, joined, pasted};
+ghost use Rattle.numbers.specs.Walks.{strung};
+ghost use Rattle.job.specs.Bytes.{valueAt, valuesAt, bytesOf, bytesFrom, pasted};
 ghost use Rattle.job.specs.Format.{settingsRecord, poseRecord, edgeRecord, fixedRecord, encoded, sizeOf};
 ghost use Rattle.job.specs.Format.{isRecord, mayFollow, isFull, faultOf, endFaults, closed, one, counted, stepOf, CursorIn};
 ghost use Rattle.job.specs.Format.{start as Format·start, reading, settingsFrom, settingNumbers, jobOf, tallyOf, space, roomIn, readInto, writtenInto};
@@ -420,7 +421,7 @@ fn put_settings(out: &mut [u8], t: SettingBits)
 
 fn put_poses(out: &mut [u8], at: usize, poses: &[u64], n: usize)
     requires { ⌜ (at + 100 * n ≤ length (now out)) × (12 * n ≤ length (now poses)) ⌝ }
-    ensures { λ _. ⌜ now (out .exit) ≡ pasted at (joined (poseRecord (now (poses .entry))) n) (now (out .entry)) ⌝ }
+    ensures { λ _. ⌜ now (out .exit) ≡ pasted at (strung (poseRecord (now (poses .entry))) n) (now (out .entry)) ⌝ }
 {
     let mut i = 0usize;
     while i < n {
@@ -432,7 +433,7 @@ fn put_poses(out: &mut [u8], at: usize, poses: &[u64], n: usize)
 
 fn put_edges(out: &mut [u8], at: usize, ends: &[u32], edges: &[u32], n: usize)
     requires { ⌜ (at + 44 * n ≤ length (now out)) × (2 * n ≤ length (now ends)) × (8 * n ≤ length (now edges)) ⌝ }
-    ensures { λ _. ⌜ now (out .exit) ≡ pasted at (joined (edgeRecord (now (ends .entry)) (now (edges .entry))) n) (now (out .entry)) ⌝ }
+    ensures { λ _. ⌜ now (out .exit) ≡ pasted at (strung (edgeRecord (now (ends .entry)) (now (edges .entry))) n) (now (out .entry)) ⌝ }
 {
     let mut i = 0usize;
     while i < n {
@@ -445,7 +446,7 @@ fn put_edges(out: &mut [u8], at: usize, ends: &[u32], edges: &[u32], n: usize)
 
 fn put_fixed(out: &mut [u8], at: usize, fixed: &[u32])
     requires { ⌜ at + 8 * length (now fixed) ≤ length (now out) ⌝ }
-    ensures { λ _. ⌜ now (out .exit) ≡ pasted at (joined (fixedRecord (now (fixed .entry))) (length (now (fixed .entry)))) (now (out .entry)) ⌝ }
+    ensures { λ _. ⌜ now (out .exit) ≡ pasted at (strung (fixedRecord (now (fixed .entry))) (length (now (fixed .entry)))) (now (out .entry)) ⌝ }
 {
     let mut i = 0usize;
     while i < fixed.len() {

@@ -1,5 +1,5 @@
-// A job's run (document 02, Wishes 1 and 2): a job is read, run with six degrees of freedom a pose, judged, and written again with the new poses. What a program
-// says of it is made here too, so that programs only read and write.
+// A job's run (document 02, Wishes 1 and 2): a job is read, run with six degrees of freedom a pose, judged, and written again with the new poses. What a
+// program says of it is made here too, so that programs only read and write.
 ghost use mathlib.Core.Path.{_≡_};
 ghost use Prim.Native.Nat.{_*_, _≤_};
 ghost use mathlib.Core.List.{_++_};
@@ -172,7 +172,7 @@ fn printable_of(
 ) -> Printable
     ensures { λ r. ⌜ r ≡ printableOf limit (now (poses .entry)) (now (ends .entry)) (now (edges .entry)) (now (new .entry)) j ⌝ }
 {
-    let m = printable::measure(poses, new, ends, edges);
+    let m = printable::measures_at(poses, new, ends, edges);
     let cosine = printable::min_gravity_cosine(Manifold::Se3, poses, new);
     printable::may_be_printed(j.converged, j.iterations, limit, cosine, m)
 }

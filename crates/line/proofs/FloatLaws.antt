@@ -18,10 +18,10 @@ use Rattle.numbers.proofs.Choices.{taken, left}
 use Rattle.numbers.proofs.Order.{lt-through}
 use Rattle.numbers.proofs.Tables.{length-table}
 use Rattle.line.specs.declared.Line.{Line}
-use Rattle.line.specs.declared.Scaled.{Scaled}
+use Rattle.line.specs.declared.ByTens.{ByTens}
 use Rattle.line.specs.declared.SixDigits.{SixDigits}
 use Rattle.line.specs.Text.{ascii, decimal, withText}
-use Rattle.line.specs.FloatText.{wholePart, sixOf, digitsText, pointed, plainText, powerText}
+use Rattle.line.specs.FloatText.{wholePart, roundedSix, digitsText, pointed, plainText, powerText}
 use Rattle.line.proofs.Lines.{text-after}
 
 -- ---- a whole part
@@ -43,13 +43,13 @@ whole-fits v h k = (
 
 -- ---- six digits
 
-pub six-kept : (s : Scaled) (w : ℕ) → w ≡ wholePart (s .value ⊕ ratio 1 2) → w < 1000000 → record { digits = w; tens = s .tens } ≡ sixOf s
-unfolding sixOf
+pub six-kept : (s : ByTens) (w : ℕ) → w ≡ wholePart (s .value ⊕ ratio 1 2) → w < 1000000 → record { digits = w; tens = s .tens } ≡ roundedSix s
+unfolding roundedSix
 six-kept s w e h =
     taken _ (ap (λ (k : ℕ). ltb k 1000000) (sym e) ∙ lt-ltb w 1000000 h) (ap (λ (k : ℕ). record { digits = k; tens = s .tens }) e)
 
-pub six-more : (s : Scaled) (w : ℕ) → w ≡ wholePart (s .value ⊕ ratio 1 2) → 1000000 ≤ w → record { digits = 100000; tens = s .tens + 1 } ≡ sixOf s
-unfolding sixOf
+pub six-more : (s : ByTens) (w : ℕ) → w ≡ wholePart (s .value ⊕ ratio 1 2) → 1000000 ≤ w → record { digits = 100000; tens = s .tens + 1 } ≡ roundedSix s
+unfolding roundedSix
 six-more s w e h = left _ (ap (λ (k : ℕ). ltb k 1000000) (sym e) ∙ le-ltb w 1000000 h) refl
 
 pub by-digits : (n : ℕ)

@@ -10,10 +10,10 @@ use lib.ListN.{length, take, drop, length-append, length-take, take-append-drop}
 use lib.Ieee.{Float, nan, inf, binary64, ofBits, toBits, toUnsigned, neg, eq, lt, add, mul, div}
 use Rattle.numbers.specs.Notation.{_⊕_, num, ratio, if-then}
 use Rattle.numbers.specs.Walks.{table}
-use Rattle.line.specs.declared.Scaled.{Scaled}
+use Rattle.line.specs.declared.ByTens.{ByTens}
 use Rattle.line.specs.declared.SixDigits.{SixDigits}
 use Rattle.line.specs.Text.{ascii, decimal}
-use Rattle.line.specs.FloatText.{raised, lowered, repeated, scaledOf, wholePart, sixOf, digitsText, pointed, plainText, powerText, sixText, sizeText}
+use Rattle.line.specs.FloatText.{raised, lowered, repeated, scaledOf, wholePart, roundedSix, digitsText, pointed, plainText, powerText, sixText, sizeText}
 use Rattle.line.specs.FloatText.{hasMinus, floatText}
 use Rattle.line.proofs.FloatLaws.{six-long}
 use Rattle.line.proofs.Lines.{decimal-few}
@@ -68,11 +68,11 @@ pub samples : map floatText (
     ∷ ascii "-inf"
     ∷ ascii "nan"
     ∷ []
-unfolding floatText sizeText sixText powerText plainText pointed digitsText sixOf wholePart scaledOf repeated lowered raised
+unfolding floatText sizeText sixText powerText plainText pointed digitsText roundedSix wholePart scaledOf repeated lowered raised
     if-then table decimal ratio ofBits toBits toUnsigned neg eq lt add mul div
 samples = refl
 
--- ---- at most sixteen bytes
+-- ---- at most thirteen bytes
 
 -- what holds of both holds of the one that is chosen
 either-way : {A : Type 0} (P : A → Type 0) (b : Bool) {x y : A} → P x → P y → P (if-then b x y)
@@ -80,24 +80,24 @@ unfolding if-then
 either-way P true p q = p
 either-way P false p q = q
 
-fewer-tens : (n : ℕ) (s : Scaled) → repeated raised n s .tens ≤ s .tens
+fewer-tens : (n : ℕ) (s : ByTens) → repeated raised n s .tens ≤ s .tens
 unfolding repeated raised
 fewer-tens zero s = omega arith
 fewer-tens (suc n) s =
     let r = repeated raised n s in let h = fewer-tens n s in
-    either-way (λ (t : Scaled). t .tens ≤ s .tens) (lt (r .value) (num 100000)) (omega arith) h
+    either-way (λ (t : ByTens). t .tens ≤ s .tens) (lt (r .value) (num 100000)) (omega arith) h
 
-more-tens : (n : ℕ) (s : Scaled) → repeated lowered n s .tens ≤ s .tens + n
+more-tens : (n : ℕ) (s : ByTens) → repeated lowered n s .tens ≤ s .tens + n
 unfolding repeated lowered
 more-tens zero s = omega arith
 more-tens (suc n) s =
     let r = repeated lowered n s in let h = more-tens n s in
-    either-way (λ (t : Scaled). t .tens ≤ s .tens + suc n) (lt (r .value) (num 1000000)) (omega arith) (omega arith)
+    either-way (λ (t : ByTens). t .tens ≤ s .tens + suc n) (lt (r .value) (num 1000000)) (omega arith) (omega arith)
 
-tens-bounded : (x : Float) → sixOf (scaledOf x) .tens ≤ 806
-unfolding scaledOf sixOf
+tens-bounded : (x : Float) → roundedSix (scaledOf x) .tens ≤ 806
+unfolding scaledOf roundedSix
 tens-bounded x =
-    let start : Scaled = record { value = x; tens = 405 } in
+    let start : ByTens = record { value = x; tens = 405 } in
     let a = fewer-tens 400 start in let b = more-tens 400 (repeated raised 400 start) in
     either-way (λ (t : SixDigits). t .tens ≤ 806) (ltb (wholePart (repeated lowered 400 (repeated raised 400 start) .value ⊕ ratio 1 2)) 1000000)
     (omega arith) (omega arith)
@@ -133,7 +133,7 @@ power-length d h =
 size-length : (x : Float) → length (sizeText x) ≤ 12
 unfolding sizeText sixText
 size-length x =
-    let d = sixOf (scaledOf x) in let p = power-length d (tens-bounded x) in let q = plain-length d in
+    let d = roundedSix (scaledOf x) in let p = power-length d (tens-bounded x) in let q = plain-length d in
     either-way short (eq x (num 0)) (lit≤ tt)
     (either-way short (lt x (inf false)) (either-way short (ltb (d .tens) 396 || ltb 405 (d .tens)) p (omega arith)) (lit≤ tt))
   where

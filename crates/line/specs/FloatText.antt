@@ -9,27 +9,27 @@ use lib.Ieee.{Float, inf, binary64, toBits, toUnsigned, neg, eq, lt}
 use Rattle.numbers.specs.Notation.{_⊕_, _⊗_, _⊘_, num, ratio, if-then}
 use Rattle.numbers.specs.Walks.{table}
 use Rattle.line.specs.Text.{ascii, decimal}
-use Rattle.line.specs.declared.Scaled.{Scaled}
+use Rattle.line.specs.declared.ByTens.{ByTens}
 use Rattle.line.specs.declared.SixDigits.{SixDigits}
 
--- ---- by tens. A Scaled stands for value × 10^(tens − 405)
+-- ---- by tens. A ByTens stands for value × 10^(tens − 405)
 
 -- the power of ten that stands for d.ddddd × 10^0
 abbrev pub unitPlace : ℕ
 unitPlace = 400
 
-unfoldable pub raised : Scaled → Scaled
+unfoldable pub raised : ByTens → ByTens
 raised s = if-then (lt (s .value) (num 100000)) (record { value = s .value ⊗ num 10; tens = s .tens - 1 }) s
 
-unfoldable pub lowered : Scaled → Scaled
+unfoldable pub lowered : ByTens → ByTens
 lowered s = if-then (lt (s .value) (num 1000000)) s (record { value = s .value ⊘ num 10; tens = s .tens + 1 })
 
-unfoldable pub repeated : (Scaled → Scaled) → ℕ → Scaled → Scaled
+unfoldable pub repeated : (ByTens → ByTens) → ℕ → ByTens → ByTens
 repeated f zero s = s
 repeated f (suc n) s = f (repeated f n s)
 
 -- 400 turns are more than any f64 needs
-unfoldable pub scaledOf : Float → Scaled
+unfoldable pub scaledOf : Float → ByTens
 scaledOf x = repeated lowered 400 (repeated raised 400 (record { value = x; tens = unitPlace + 5 }))
 
 -- ---- six digits
@@ -39,8 +39,8 @@ unfoldable pub wholePart : Float → ℕ
 wholePart v = if-then (lt (num 0) v) (if-then (lt v (num 10000000)) (toUnsigned 64 v) 0) 0
 
 -- rounded to a whole number; 999999.5 and more is one ten more
-unfoldable pub sixOf : Scaled → SixDigits
-sixOf s =
+unfoldable pub roundedSix : ByTens → SixDigits
+roundedSix s =
     let whole = wholePart (s .value ⊕ ratio 1 2) in
     if-then (ltb whole 1000000) (record { digits = whole; tens = s .tens }) (record { digits = 100000; tens = s .tens + 1 })
 
@@ -69,7 +69,7 @@ sixText d = if-then (ltb (d .tens) (unitPlace - 4) || ltb (unitPlace + 5) (d .te
 
 -- of a number with no minus sign
 unfoldable pub sizeText : Float → List ℕ
-sizeText x = if-then (eq x (num 0)) (ascii "0") (if-then (lt x (inf false)) (sixText (sixOf (scaledOf x))) (ascii "inf"))
+sizeText x = if-then (eq x (num 0)) (ascii "0") (if-then (lt x (inf false)) (sixText (roundedSix (scaledOf x))) (ascii "inf"))
 
 -- the sign bit
 abbrev pub hasMinus : Float → Bool

@@ -1,7 +1,7 @@
 // What programs say, as lines by value: texts, numbers in decimal, floats with six digits, and the lines of a job's run (document 02, Wishes 1 and 2).
 ghost use mathlib.Core.Path.{_≡_};
 ghost use Prim.Native.Nat.{_+_, _%_, _<_, _≤_};
-ghost use Rattle.line.specs.FloatText.{raised, lowered, repeated, scaledOf, wholePart, sixOf, digitsText};
+ghost use Rattle.line.specs.FloatText.{raised, lowered, repeated, scaledOf, wholePart, roundedSix, digitsText};
 ghost use Rattle.line.specs.FloatText.{pointed, plainText, powerText, sixText, sizeText, floatText};
 ghost use Rattle.line.specs.Text.{decimal, ranText, refusedText, unreadableText, unwrittenText, yesNo, empty as Text·empty, withByte, withText, lineOf};
 
@@ -59,7 +59,7 @@ pub fn with_decimal(l: Line, n: u64) -> Line
 // ---- floats
 
 // Stands for value × 10^(tens − 405).
-pub struct Scaled {
+pub struct ByTens {
     pub value: f64,
     pub tens: usize,
 }
@@ -72,12 +72,12 @@ pub struct SixDigits {
 
 const UNIT_PLACE: usize = 400;
 
-fn raise(s: Scaled) -> Scaled
+fn raise(s: ByTens) -> ByTens
     requires { ⌜ 0 < s .tens ⌝ }
     ensures { λ r. ⌜ (r ≡ raised s) × (s .tens ≤ r .tens + 1) × (r .tens ≤ s .tens) ⌝ }
 {
     if s.value < 100000.0 {
-        return Scaled {
+        return ByTens {
             value: s.value * 10.0,
             tens: s.tens - 1,
         };
@@ -85,20 +85,20 @@ fn raise(s: Scaled) -> Scaled
     s
 }
 
-fn lower(s: Scaled) -> Scaled
+fn lower(s: ByTens) -> ByTens
     requires { ⌜ s .tens < 1000 ⌝ }
     ensures { λ r. ⌜ (r ≡ lowered s) × (r .tens ≤ s .tens + 1) ⌝ }
 {
     if s.value < 1000000.0 {
         return s;
     }
-    Scaled {
+    ByTens {
         value: s.value / 10.0,
         tens: s.tens + 1,
     }
 }
 
-fn raise_all(s: Scaled) -> Scaled
+fn raise_all(s: ByTens) -> ByTens
     requires { ⌜ s .tens ≡ 405 ⌝ }
     ensures { λ r. ⌜ (r ≡ repeated raised 400 s) × (r .tens ≤ 405) ⌝ }
 {
@@ -109,7 +109,7 @@ fn raise_all(s: Scaled) -> Scaled
     t
 }
 
-fn lower_all(s: Scaled) -> Scaled
+fn lower_all(s: ByTens) -> ByTens
     requires { ⌜ s .tens ≤ 405 ⌝ }
     ensures { λ r. ⌜ (r ≡ repeated lowered 400 s) × (r .tens ≤ 805) ⌝ }
 {
@@ -120,10 +120,10 @@ fn lower_all(s: Scaled) -> Scaled
     t
 }
 
-fn by_tens(x: f64) -> Scaled
+fn by_tens(x: f64) -> ByTens
     ensures { λ r. ⌜ (r ≡ scaledOf x) × (r .tens ≤ 805) ⌝ }
 {
-    lower_all(raise_all(Scaled {
+    lower_all(raise_all(ByTens {
         value: x,
         tens: UNIT_PLACE + 5,
     }))
@@ -141,9 +141,9 @@ fn whole_part(v: f64) -> u64
     0
 }
 
-fn six_of(s: Scaled) -> SixDigits
+fn rounded_six(s: ByTens) -> SixDigits
     requires { ⌜ s .tens ≤ 805 ⌝ }
-    ensures { λ r. ⌜ (r ≡ sixOf s) × (r .tens ≤ 806) ⌝ }
+    ensures { λ r. ⌜ (r ≡ roundedSix s) × (r .tens ≤ 806) ⌝ }
 {
     let whole = whole_part(s.value + 0.5);
     if whole < 1000000 {
@@ -158,7 +158,7 @@ fn six_of(s: Scaled) -> SixDigits
     }
 }
 
-fn digit(n: u64) -> u8
+fn digit_byte(n: u64) -> u8
     ensures { λ r. ⌜ r ≡ 48 + n % 10 ⌝ }
 {
     (48 + n % 10) as u8
@@ -168,12 +168,12 @@ fn digits_text(n: u64) -> [u8; 6]
     ensures { λ r. ⌜ r ≡ digitsText n ⌝ }
 {
     [
-        digit(n / 100000),
-        digit(n / 10000),
-        digit(n / 1000),
-        digit(n / 100),
-        digit(n / 10),
-        digit(n),
+        digit_byte(n / 100000),
+        digit_byte(n / 10000),
+        digit_byte(n / 1000),
+        digit_byte(n / 100),
+        digit_byte(n / 10),
+        digit_byte(n),
     ]
 }
 
@@ -235,7 +235,7 @@ fn with_size(l: Line, x: f64) -> Line
         return with_text(l, b"0");
     }
     if x < 1.0 / 0.0 {
-        return with_six(l, six_of(by_tens(x)));
+        return with_six(l, rounded_six(by_tens(x)));
     }
     with_text(l, b"inf")
 }

@@ -66,7 +66,8 @@ module _ {A : Type 0} (d : A) where
       go k q false _ y = let r : m ≤ k = y refl in h .outside k (inr (omega arith)) ∙ getD-replicate n k z d q
 
   -- laid from another as far as both go
-  pub laid-copied : (m : List A) {l₀ l : List A} {i : ℕ} → Laid (λ k. getD m k d) 0 l₀ l i → i ≡ min (length l₀) (length m) → l ≡ take (length l₀) m ++ drop (length m) l₀
+  pub laid-copied : (m : List A) {l₀ l : List A} {i : ℕ} → Laid (λ k. getD m k d) 0 l₀ l i → i ≡ min (length l₀) (length m)
+      → l ≡ take (length l₀) m ++ drop (length m) l₀
   laid-copied m {l₀} {l} {i} h e =
       ext-getD d l (take (length l₀) m ++ drop (length m) l₀) (h .len ∙ sym long) (λ k q. let s = h .len in at k (omega arith) (ltb k (length m)) refl)
     where

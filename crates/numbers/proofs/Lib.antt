@@ -25,3 +25,4 @@ pub mod Believe
 pub mod RootServes
 pub mod Bounded
 pub mod Own
+pub mod Strung

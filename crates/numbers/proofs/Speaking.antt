@@ -92,7 +92,7 @@ lowest-ext c t u (suc n) h = rw (lowest-ext c t u n h, h n)
 
 -- whose first place speaks
 module _ (c : ℕ) (t : ℕ → Bool) where
-  none-earlier : (n : ℕ) → ((q : ℕ) → q < n → t q ≡ false) → lowest (fault c t ∷ []) n ≡ Fine
+  pub none-earlier : (n : ℕ) → ((q : ℕ) → q < n → t q ≡ false) → lowest (fault c t ∷ []) n ≡ Fine
   none-earlier zero h = refl
   none-earlier (suc n) h = rw (none-earlier n (λ q l. h q (omega arith)), h n (omega arith))
 

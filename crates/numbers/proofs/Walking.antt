@@ -199,7 +199,8 @@ each-went {S} f (suc n) s t e k h = go (each f n s) (λ v q l. each-went f n s v
     last u (Well, v) q r = rw q
     last u (Bad why, v) q r = let z : _≡_ {A = ℕ} 0 1 = cc in absurd (omega arith)
 
-    go : (x : Ended S) → ((v : S) → each f n s ≡ done v → k < n → (u : S) × (f k u .0 ≡ Well)) → each f n s ≡ x → next x n f ≡ done t → (u : S) × (f k u .0 ≡ Well)
+    go : (x : Ended S) → ((v : S) → each f n s ≡ done v → k < n → (u : S) × (f k u .0 ≡ Well)) → each f n s ≡ x → next x n f ≡ done t
+        → (u : S) × (f k u .0 ≡ Well)
     go (stopped j why v) ih q r = let z : _≡_ {A = ℕ} 0 1 = cc in absurd (omega arith)
     go (done v) ih q r = pick (ltb k n) refl
       where

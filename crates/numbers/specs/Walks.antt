@@ -28,6 +28,11 @@ unfoldable pub table : {A : Type 0} → (ℕ → A) → ℕ → List A
 table f zero = []
 table f (suc n) = table f n ++ (f n ∷ [])
 
+-- the lists f 0, f 1, .. f (n - 1), one behind the other
+unfoldable pub strung : {A : Type 0} → (ℕ → List A) → ℕ → List A
+strung f zero = []
+strung f (suc n) = strung f n ++ f n
+
 -- f 0, f 1, .. f (n - 1) added in this order in a format, from +0
 unfoldable pub sumOf : Format → (ℕ → Float) → ℕ → Float
 sumOf k f zero = ofBits k 0

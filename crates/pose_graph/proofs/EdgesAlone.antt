@@ -11,7 +11,7 @@ use Rattle.sparse_pgo.specs.Optimize.{After, optimized}
 use Rattle.sparse_pgo.specs.declared.Joined.{Joined}
 use Rattle.sparse_pgo.specs.declared.Answer.{Answer}
 use Rattle.sparse_pgo.specs.declared.Answer.the-variants as answer
-use Rattle.printable.specs.Measures.{withSquares, residualAt, squaresUpTo, poseGraphCost, lastResidual, measuresOf}
+use Rattle.printable.specs.Measures.{withSquares, edgeResidual, squaresUpTo, poseGraphCost, lastResidual, measuresOf}
 use Rattle.pose_graph.specs.Closing.{Closing, resultFor, closedAs, closedRun}
 use Rattle.pose_graph.specs.declared.PgoResult.{PgoResult}
 use Rattle.pose_graph.specs.declared.Closed.the-variants as closed
@@ -20,9 +20,10 @@ module _ (poses : List Float) (ends : List ℕ) (edges : List Float) (fixed : Li
   squares-alone : (pose : ℕ → Pose) (n : ℕ) → squaresUpTo (lentGraph [] ends edges []) pose n ≡ squaresUpTo (lentGraph poses ends edges fixed) pose n
   unfolding squaresUpTo
   squares-alone pose zero = refl
-  squares-alone pose (suc n) = ap (withSquares (residualAt (lentGraph [] ends edges []) pose n)) (squares-alone pose n)
+  squares-alone pose (suc n) = ap (withSquares (edgeResidual (lentGraph [] ends edges []) pose n)) (squares-alone pose n)
 
-  pub edges-alone : (before after : ℕ → Pose) → measuresOf (lentGraph [] ends edges []) before after ≡ measuresOf (lentGraph poses ends edges fixed) before after
+  pub edges-alone : (before after : ℕ → Pose)
+      → measuresOf (lentGraph [] ends edges []) before after ≡ measuresOf (lentGraph poses ends edges fixed) before after
   unfolding measuresOf poseGraphCost lastResidual
   edges-alone before after = rw (squares-alone before, squares-alone after)
 

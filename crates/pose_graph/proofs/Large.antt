@@ -74,20 +74,24 @@ module _ (m : Manifold) (set : Settings) (room : Room) (s : Scan) (work32 work64
     turned =
         let shape : unfit (length (s .poses)) (length (endsTo s n)) (length (edgesTo s n)) (room .out) ≡ unfitPoses (length (s .poses)) (room .out)
         = rw (ends-long s n, edges-long s n) (unfit-built (length (s .poses)) n (room .out)) in
-        ap (λ (b : Bool). verdict (row 1 (badGravity m) ∷ row 2 b ∷ row 3 (tooMany (graphOf i .poses) (graphOf i .edges) (length (i .fixed))) ∷ drop 3 (rows i))) shape
+        let third = tooMany (graphOf i .poses) (graphOf i .edges) (length (i .fixed)) in
+        ap (λ (b : Bool). verdict (row 1 (badGravity m) ∷ row 2 b ∷ row 3 third ∷ drop 3 (rows i))) shape
         ∙ ap (λ (b : Bool). verdict (row 1 (badGravity m) ∷ row 2 (unfitPoses (length (s .poses)) (room .out)) ∷ row 3 b ∷ drop 3 (rows i))) too-many
         ∙ rows-large (badGravity m) (unfitPoses (length (s .poses)) (room .out)) (drop 3 (rows i))
 
-    large-closed : closedRun i work32 work64 original out ≡ record { answer = closed.Refused said; work32 = work32; work64 = work64; original = original; out = out }
+    large-closed : closedRun i work32 work64 original out
+        ≡ record { answer = closed.Refused said; work32 = work32; work64 = work64; original = original; out = out }
     unfolding closedRun checks
     large-closed = rw (demand-one-before i work32 work64 out said (ap (λ (v : Verdict). settle v (countsOf i)) turned))
 
   -- the first 1,025 edges are as good as all
-  pub built-enough : closedRun (graphTo (min (edgeCount s) 1025) m set room s) work32 work64 original out ≡ closedRun (builtGraph m set room s) work32 work64 original out
+  pub built-enough : closedRun (graphTo (min (edgeCount s) 1025) m set room s) work32 work64 original out
+      ≡ closedRun (builtGraph m set room s) work32 work64 original out
   built-enough = go (ltb (edgeCount s) 1025) refl
     where
       go : (b : Bool) → ltb (edgeCount s) 1025 ≡ b
-          → closedRun (graphTo (min (edgeCount s) 1025) m set room s) work32 work64 original out ≡ closedRun (builtGraph m set room s) work32 work64 original out
+          → closedRun (graphTo (min (edgeCount s) 1025) m set room s) work32 work64 original out
+          ≡ closedRun (builtGraph m set room s) work32 work64 original out
       go true e =
           let l = ltb-true (edgeCount s) 1025 e in
           let same : min (edgeCount s) 1025 ≡ edgeCount s = min-eq-left (omega arith) in
@@ -129,10 +133,12 @@ module _ (s : Scan) (n : ℕ) (e : n ≡ min (edgeCount s) 1025) where
       rw (a, same, length-append (edgesTo s n) (replicate (8200 - n * 8) (num 0)), edges-long s n) (omega arith)
 
 -- past row 33 the originals' copy is as long as the poses
-pub original-long : (ids loops : List ℕ) (poses loopPoses original : ℕ) → verdict (scanRows ids poses loops loopPoses original) ≡ verdict.Fine → original ≡ poses
+pub original-long : (ids loops : List ℕ) (poses loopPoses original : ℕ) → verdict (scanRows ids poses loops loopPoses original) ≡ verdict.Fine
+    → original ≡ poses
 unfolding unfitScan
 original-long ids loops poses loopPoses original e =
-    let u : unfitScan (length ids) poses (length loops) loopPoses original ≡ false = ask-fine _ 33 0 (row-at verdict.Fine (scanRows ids poses loops loopPoses original) 0 e) in
+    let u : unfitScan (length ids) poses (length loops) loopPoses original ≡ false
+    = ask-fine _ 33 0 (row-at verdict.Fine (scanRows ids poses loops loopPoses original) 0 e) in
     eqb-true original poses (not-false (eqb original poses)
     (neither-second (not (eqb loopPoses (6 * length loops))) _
     (neither-second (not (eqb (length loops % 2) 0)) _ (neither-second (not (eqb poses (12 * length ids))) _ (neither-second (ltb (length ids) 2) _ u)))))

@@ -9,14 +9,14 @@ use lib.Dec.{T, eqb}
 use lib.ListN.{length, drop}
 use lib.Ieee.{Float, binary32, fits}
 use borrow.Author.Tests.{eqb-true, eqb-false}
-use Rattle.numbers.specs.Refusals.{refusal, row, placed, lowest, verdict}
+use Rattle.numbers.specs.Refusals.{refusal, Row, row, placed, verdict}
 use Rattle.numbers.specs.Walks.{some}
 use Rattle.numbers.specs.declared.Refusal.{Refusal}
 use Rattle.numbers.specs.declared.Verdict.{Verdict}
 use Rattle.numbers.specs.declared.Verdict.the-variants as verdict
 use Rattle.numbers.proofs.Firsts.{First}
 use Rattle.numbers.proofs.Reading.{ask-fine}
-use Rattle.numbers.proofs.Speaking.{amongRows, row-spoke, row-speaks, first-lowest, lowest-first}
+use Rattle.numbers.proofs.Speaking.{amongRows, row-spoke, row-speaks, none-earlier, first-lowest, lowest-first}
 use Rattle.graph.specs.Graph.{linksOf, isActive}
 use Rattle.graph.specs.Lent.{Input, graphOf, poseAt, names}
 use Rattle.graph.specs.Table.{rows}
@@ -28,7 +28,7 @@ use Rattle.sparse_pgo.specs.declared.Answer.{Answer}
 use Rattle.sparse_pgo.specs.declared.Answer.the-variants as answer
 use Rattle.sparse_pgo.proofs.Demands.{never-refused}
 use Rattle.sparse_pgo.proofs.Costed.{active-by-a, active-by-b, joined-fit, active-residuals}
-use Rattle.printable.specs.Measures.{residualAt, gravityKept}
+use Rattle.printable.specs.Measures.{edgeResidual, gravityKept}
 use Rattle.printable.specs.Printing.{usable}
 use Rattle.printable.proofs.Judging.{Usable, usable-means}
 use Rattle.scans.specs.Scans.{Scan, candidateNode, queryNode, builtGraph}
@@ -56,8 +56,8 @@ module _ (c : PgoConfig) (s : Scan) (work32 work64 original out : List Float) wh
   result = loopsClosed c s work32 work64 original out
 
   -- the tests of rows 33 and 34
-  abbrev pub unfit : Bool
-  unfit = unfitScan (length (s .ids)) (length (s .poses)) (length (s .loops)) (length (s .loopPoses)) (length original)
+  abbrev pub isUnfit : Bool
+  isUnfit = unfitScan (length (s .ids)) (length (s .poses)) (length (s .loops)) (length (s .loopPoses)) (length original)
 
   abbrev pub namesAbsent : ℕ → Bool
   namesAbsent k = isAbsent (candidateNode (s .ids) (s .loops) k) || isAbsent (queryNode (s .ids) (s .loops) k)
@@ -74,9 +74,23 @@ module _ (c : PgoConfig) (s : Scan) (work32 work64 original out : List Float) wh
   turned-down r e = rw e
 
   -- where they say nothing, the run of the built graph decides, whatever its size
-  pub run-of-built : said ≡ verdict.Fine → result ≡ closedRun built work32 work64 original out
+  pub run-if-fine : said ≡ verdict.Fine → result ≡ closedRun built work32 work64 original out
   unfolding loopsClosed
-  run-of-built e = rw e
+  run-if-fine e = rw e
+
+  -- they say nothing of a scan that is not unfit and whose loops name no absent keyframe
+  pub fine-if-fit : isUnfit ≡ false → ((k : ℕ) → k < length (s .loops) / 2 → namesAbsent k ≡ false) → said ≡ verdict.Fine
+  fine-if-fit h f = rw (h, none-earlier 34 namesAbsent (length (s .loops) / 2) f)
+
+  pub run-of-built : isUnfit ≡ false → ((k : ℕ) → k < length (s .loops) / 2 → namesAbsent k ≡ false)
+      → result ≡ closedRun built work32 work64 original out
+  run-of-built h f = run-if-fine (fine-if-fit h f)
+
+  -- a run that is refused: every lent number is as the run leaves it, the originals' copy as found
+  pub refused-so : (r : Refusal) → said ≡ verdict.Fine → run .answer ≡ answer.Refused r
+      → result ≡ record { answer = closed.Refused r; work32 = run .work32; work64 = run .work64; original = original; out = run .out }
+  unfolding closedRun
+  refused-so r e h = run-if-fine e ∙ ap (closedAs built original run) h
 
   -- ---- the answer, back to the run's
 
@@ -92,32 +106,47 @@ module _ (c : PgoConfig) (s : Scan) (work32 work64 original out : List Float) wh
       go (verdict.Refused q) h e = let same : q ≡ r = cc in h ∙ ap verdict.Refused same
       go verdict.Fine h e = absurd (never-refused built work32 work64 out r above other (as-refused (run .answer) r e))
 
-  -- ---- 33, at 0, exactly where the scan is unfit
+  abbrev loopRow : Row
+  loopRow = placed (length (s .loops) / 2) (loopFaults (s .ids) (s .loops))
 
-  pub refused-33 : (result .answer ≡ closed.Refused (refusal 33 0) → unfit ≡ true) × (unfit ≡ true → result ≡ unchanged (refusal 33 0))
+  -- ---- 33, and that at 0, exactly where the scan is unfit
+
+  pub refused-33 : ((p : ℕ) → result .answer ≡ closed.Refused (refusal 33 p) → (p ≡ 0) × (isUnfit ≡ true)) × (isUnfit ≡ true → result ≡ unchanged (refusal 33 0))
   refused-33 = (
-    λ e. lowest-first 33 (λ _. unfit) 1 0 (row-spoke [] (row 33 unfit) (placed (length (s .loops) / 2) (loopFaults (s .ids) (s .loops)) ∷ []) (refusal 33 0) refl refl
-        (spoke (refusal 33 0) (omega arith) refl e) .1) .holds,
+    λ p e.
+        let first = lowest-first 33 (λ _. isUnfit) 1 p
+        (row-spoke [] (row 33 isUnfit) (loopRow ∷ []) (refusal 33 p) refl refl (spoke (refusal 33 p) (omega arith) refl e) .1) in
+        let below = first .below in
+        (omega arith, first .holds),
     λ h. turned-down (refusal 33 0)
-        (row-speaks [] (row 33 unfit) (placed (length (s .loops) / 2) (loopFaults (s .ids) (s .loops)) ∷ []) (refusal 33 0) refl (first-lowest 33 (λ _. unfit) 1 0 (record { below = omega arith; holds = h; earlier = λ q l. absurd (omega arith) }))),
+        (row-speaks [] (row 33 isUnfit) (loopRow ∷ []) (refusal 33 0) refl
+        (first-lowest 33 (λ _. isUnfit) 1 0 (record { below = omega arith; holds = h; earlier = λ q l. absurd (omega arith) }))),
   )
 
   -- ---- 34, at loop k, exactly where it is not, and k is the first loop that names an absent keyframe
 
   pub record NamesAbsent (k : ℕ) : Type 0 where
-    pub fits-lengths : unfit ≡ false
+    pub fits-lengths : isUnfit ≡ false
     pub first-loop : First namesAbsent (length (s .loops) / 2) k
 
   pub refused-34 : (k : ℕ) → (result .answer ≡ closed.Refused (refusal 34 k) → NamesAbsent k) × (NamesAbsent k → result ≡ unchanged (refusal 34 k))
   refused-34 k = (
     λ e.
-        let both = row-spoke (row 33 unfit ∷ []) (placed (length (s .loops) / 2) (loopFaults (s .ids) (s .loops))) [] (refusal 34 k) refl refl
-        (spoke (refusal 34 k) (omega arith) refl e) in
-        record { fits-lengths = ask-fine unfit 33 0 (both .0); first-loop = lowest-first 34 namesAbsent (length (s .loops) / 2) k (both .1) },
+        let both = row-spoke (row 33 isUnfit ∷ []) loopRow [] (refusal 34 k) refl refl (spoke (refusal 34 k) (omega arith) refl e) in
+        record { fits-lengths = ask-fine isUnfit 33 0 (both .0); first-loop = lowest-first 34 namesAbsent (length (s .loops) / 2) k (both .1) },
     λ h. turned-down (refusal 34 k)
-        (row-speaks (row 33 unfit ∷ []) (placed (length (s .loops) / 2) (loopFaults (s .ids) (s .loops))) [] (refusal 34 k) (rw (h .fits-lengths))
+        (row-speaks (row 33 isUnfit ∷ []) loopRow [] (refusal 34 k) (rw (h .fits-lengths))
         (first-lowest 34 namesAbsent (length (s .loops) / 2) k (h .first-loop))),
   )
+
+  -- an edge whose ends differ is active, since pose 0 alone is fixed
+  built-active : (k : ℕ) → k < graphOf built .edges → (graphOf built .a k ≡ graphOf built .b k → ⊥) → isActive (linksOf (graphOf built)) k ≡ true
+  built-active k below differ = go (eqb 0 (graphOf built .a k)) refl (eqb 0 (graphOf built .b k)) refl
+    where
+      go : (p : Bool) → eqb 0 (graphOf built .a k) ≡ p → (q : Bool) → eqb 0 (graphOf built .b k) ≡ q → isActive (linksOf (graphOf built)) k ≡ true
+      go false h q r = active-by-a (graphOf built) k below (only-zero _ h)
+      go true h false r = active-by-b (graphOf built) k below (only-zero _ r)
+      go true h true r = absurd (differ (sym (eqb-true 0 _ h) ∙ eqb-true 0 _ r))
 
   -- ---- a scan that ran: the run's own answer, and what was measured at its poses
 
@@ -126,6 +155,8 @@ module _ (c : PgoConfig) (s : Scan) (work32 work64 original out : List Float) wh
     pub measured : x ≡ resultFor (c .manifold) (graphOf built) (s .poses) (run .out) (x .run)
     pub originals : result .original ≡ s .poses
     pub new : result .out ≡ run .out
+    pub single : result .work32 ≡ run .work32
+    pub double : result .work64 ≡ run .work64
 
   pub ran-so : (x : PgoResult) → result .answer ≡ closed.Ran x → RunSo x
   unfolding loopsClosed closedRun resultFor
@@ -143,7 +174,14 @@ module _ (c : PgoConfig) (s : Scan) (work32 work64 original out : List Float) wh
       go (verdict.Refused r) h e = let z : _≡_ {A = ℕ} 0 1 = cc in absurd (omega arith)
       go verdict.Fine h e =
           let both = at (run .answer) refl e in
-          record { joined = both .0; measured = both .1; originals = rw (h, both .0); new = rw (h, both .0) }
+          record {
+            joined = both .0;
+            measured = both .1;
+            originals = rw (h, both .0);
+            new = rw (h, both .0);
+            single = rw (h, both .0);
+            double = rw (h, both .0);
+          }
 
   module _ (x : PgoResult) (e : result .answer ≡ closed.Ran x) where
     -- ---- usable exactly if every test holds; so the run converged and the cost is strictly lower
@@ -151,23 +189,24 @@ module _ (c : PgoConfig) (s : Scan) (work32 work64 original out : List Float) wh
     abbrev pub kept : Bool
     kept = gravityKept (c .manifold) (graphOf built .poses) (poseAt (s .poses)) (poseAt (result .out))
 
-    judged : x .usable ≡ usable (x .run .converged) kept (x .measures)
+    usable-is : x .usable ≡ usable (x .run .converged) kept (x .measures)
     unfolding resultFor
-    judged =
+    usable-is =
         let so = ran-so x e in
         let m = so .measured in
-        rw (so .new) (ap (λ (y : PgoResult). y .usable) m ∙ sym (ap (λ (y : PgoResult). usable (x .run .converged) (gravityKept (c .manifold) (graphOf built .poses) (poseAt (s .poses)) (poseAt (run .out))) (y .measures)) m))
+        let k = gravityKept (c .manifold) (graphOf built .poses) (poseAt (s .poses)) (poseAt (run .out)) in
+        rw (so .new) (ap (λ (y : PgoResult). y .usable) m ∙ sym (ap (λ (y : PgoResult). usable (x .run .converged) k (y .measures)) m))
 
     pub usable-so : (x .usable ≡ true → Usable (x .run .converged) kept (x .measures)) × (Usable (x .run .converged) kept (x .measures) → x .usable ≡ true)
     usable-so =
         let both = usable-means (x .run .converged) kept (x .measures) in
-        (λ h. both .0 (sym judged ∙ h), λ h. judged ∙ both .1 h)
+        (λ h. both .0 (sym usable-is ∙ h), λ h. usable-is ∙ both .1 h)
 
     -- ---- the last edge has a residual, before and after, for a first damping that is an f32
 
     pub verdict-has-residual : T (fits binary32 (c .settings .damping))
-        → (hasResidual (residualAt (graphOf built) (poseAt (s .poses)) (graphOf built .edges - 1)) ≡ true)
-        × (hasResidual (residualAt (graphOf built) (poseAt (result .out)) (graphOf built .edges - 1)) ≡ true)
+        → (hasResidual (edgeResidual (graphOf built) (poseAt (s .poses)) (graphOf built .edges - 1)) ≡ true)
+        × (hasResidual (edgeResidual (graphOf built) (poseAt (result .out)) (graphOf built .edges - 1)) ≡ true)
     verdict-has-residual f =
         let so = ran-so x e in
         let (counts, passed) = joined-fit built work32 work64 out (x .run) (so .joined) in
@@ -175,15 +214,4 @@ module _ (c : PgoConfig) (s : Scan) (work32 work64 original out : List Float) wh
         let some-edge = g .some-edge in
         let k = graphOf built .edges - 1 in
         let below : k < graphOf built .edges = omega arith in
-        let both = active-residuals built work32 work64 out (x .run) (so .joined) f k below (active below (g .ends-differ k below)) in
-        rw (so .new) both
-      where
-        active : graphOf built .edges - 1 < graphOf built .edges → (graphOf built .a (graphOf built .edges - 1) ≡ graphOf built .b (graphOf built .edges - 1) → ⊥)
-            → isActive (linksOf (graphOf built)) (graphOf built .edges - 1) ≡ true
-        active below differ = go (eqb 0 (graphOf built .a (graphOf built .edges - 1))) refl (eqb 0 (graphOf built .b (graphOf built .edges - 1))) refl
-          where
-            go : (p : Bool) → eqb 0 (graphOf built .a (graphOf built .edges - 1)) ≡ p → (q : Bool) → eqb 0 (graphOf built .b (graphOf built .edges - 1)) ≡ q
-                → isActive (linksOf (graphOf built)) (graphOf built .edges - 1) ≡ true
-            go false h q r = active-by-a (graphOf built) _ below (only-zero _ h)
-            go true h false r = active-by-b (graphOf built) _ below (only-zero _ r)
-            go true h true r = absurd (differ (sym (eqb-true 0 _ h) ∙ eqb-true 0 _ r))
+        rw (so .new) (active-residuals built work32 work64 out (x .run) (so .joined) f k below (built-active k below (g .ends-differ k below)))

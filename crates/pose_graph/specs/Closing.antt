@@ -45,9 +45,11 @@ resultFor manifold g poses out j =
 
 -- where refused, all is as the run leaves it and the originals' copy as found
 abbrev pub closedAs : Input → List Float → After → Answer → Closing
-closedAs i original a (answer.Refused r) = record { answer = closed.Refused r; work32 = a .work32; work64 = a .work64; original = original; out = a .out }
+closedAs i original a (answer.Refused r) =
+    record { answer = closed.Refused r; work32 = a .work32; work64 = a .work64; original = original; out = a .out }
 closedAs i original a (answer.Joined j) =
-    record { answer = closed.Ran (resultFor (i .manifold) (graphOf i) (i .poses) (a .out) j); work32 = a .work32; work64 = a .work64; original = i .poses; out = a .out }
+    let x = resultFor (i .manifold) (graphOf i) (i .poses) (a .out) j in
+    record { answer = closed.Ran x; work32 = a .work32; work64 = a .work64; original = i .poses; out = a .out }
 
 unfoldable pub closedRun : Input → List Float → List Float → List Float → List Float → Closing
 closedRun i work32 work64 original out = let a = optimized i work32 work64 out in closedAs i original a (a .answer)

@@ -1,5 +1,5 @@
-// The scanning bench's step (pose_graph.rs; document 02, Wish 2): chain and loop edges are built of a scan, the graph is run, and what came out is judged. Nothing
-// is allocated.
+// The scanning bench's step (pose_graph.rs; document 02, Wish 2): chain and loop edges are built of a scan, the graph is run, and what came out is
+// judged. Nothing is allocated.
 ghost use mathlib.Core.Path.{_≡_};
 ghost use mathlib.Core.List.{[], _∷_};
 ghost use lib.ListN.{length};
@@ -35,7 +35,7 @@ pub enum Closed {
 
 // ---- the run, and what is said of it
 
-fn judged(
+fn result_of(
     manifold: Manifold,
     poses: &[f64],
     ends: &[u32],
@@ -43,9 +43,10 @@ fn judged(
     out: &[f64],
     run: Joined,
 ) -> PgoResult
-    ensures { λ r. ⌜ r ≡ resultFor manifold (lentGraph (now (poses .entry)) (now (ends .entry)) (now (edges .entry)) []) (now (poses .entry)) (now (out .entry)) run ⌝ }
+    ensures { λ r. ⌜ r ≡ resultFor manifold (lentGraph (now (poses .entry)) (now (ends .entry)) (now (edges .entry)) [])
+        (now (poses .entry)) (now (out .entry)) run ⌝ }
 {
-    let measures = printable::measure(poses, out, ends, edges);
+    let measures = printable::measures_at(poses, out, ends, edges);
     let preserved = printable::gravity_preserved(manifold, poses, out);
     PgoResult {
         run,
@@ -55,7 +56,7 @@ fn judged(
 }
 
 // The run of any edges with pose 0 fixed, and what is said of it.
-fn close(
+fn run_and_judge(
     config: PgoConfig,
     poses: &[f64],
     ends: &[u32],
@@ -68,7 +69,8 @@ fn close(
     requires { ⌜ length (now original) ≡ length (now poses) ⌝ }
     ensures { λ r. ⌜ record { answer = r; work32 = now (work32 .exit); work64 = now (work64 .exit); original = now (original .exit); out = now (out .exit) }
         ≡ closedRun (lent (config .manifold) (now (poses .entry)) (now (ends .entry)) (now (edges .entry)) (0 ∷ []) (config .settings)
-        (roomFor (now (work32 .entry)) (now (work64 .entry)) (now (out .entry)))) (now (work32 .entry)) (now (work64 .entry)) (now (original .entry)) (now (out .entry)) ⌝ }
+        (roomFor (now (work32 .entry)) (now (work64 .entry)) (now (out .entry))))
+        (now (work32 .entry)) (now (work64 .entry)) (now (original .entry)) (now (out .entry)) ⌝ }
 {
     let manifold = config.manifold;
     let answer = sparse_pgo::sparse_pose_graph_optimize(
@@ -86,7 +88,7 @@ fn close(
         Answer::Refused(r) => Closed::Refused(r),
         Answer::Joined(run) => {
             numbers::copy64(poses, original);
-            Closed::Ran(judged(manifold, poses, ends, edges, out, run))
+            Closed::Ran(result_of(manifold, poses, ends, edges, out, run))
         }
     }
 }
@@ -116,7 +118,7 @@ pub fn optimize_pose_graph(
     let edges = scans::built_edges(ids.len(), poses, loop_poses, config.loop_edge_weight, n);
     let e = n * 2;
     let g = n * 8;
-    close(
+    run_and_judge(
         config,
         poses,
         &ends[..e],

@@ -28,7 +28,7 @@ use Rattle.graph.specs.declared.Edge.{Edge}
 use Rattle.residual.specs.Residuals.{errorOf, weightedVec, weighted, finiteTwist, sixIfFinite, residualOf, sixOf}
 use Rattle.residual.specs.declared.Residual.{Residual}
 use Rattle.residual.specs.declared.Residual.the-variants.{Six, Failed}
-use Rattle.printable.specs.Measures.{residualAt, squaresOf, withSquares, squaresUpTo, poseGraphCost}
+use Rattle.printable.specs.Measures.{edgeResidual, squaresOf, withSquares, squaresUpTo, poseGraphCost}
 use Rattle.printable.proofs.Measuring.{squares-none}
 
 -- ---- the six numbers of a residual
@@ -139,8 +139,8 @@ module _ {P : Type 0} (g : Graph P Edge) (pose : ℕ → Pose) where
   unfolding squaresUpTo
   sum-small zero h = subst (AtMost (0 * 6 * 2 ^ 256)) (squares-none g pose) (zero-at-most binary64 (0 * 6 * 2 ^ 256))
   sum-small (suc k) h =
-      subst (λ q. AtMost (q * 2 ^ 256) (withSquares (residualAt g pose k) (squaresUpTo g pose k))) (one-more k)
-      (with-small (residualAt g pose k) (k * 6) (squaresUpTo g pose k) (residual-sound (pose (g .a k)) (pose (g .b k)) (g .measured k))
+      subst (λ q. AtMost (q * 2 ^ 256) (withSquares (edgeResidual g pose k) (squaresUpTo g pose k))) (one-more k)
+      (with-small (edgeResidual g pose k) (k * 6) (squaresUpTo g pose k) (residual-sound (pose (g .a k)) (pose (g .b k)) (g .measured k))
       (lt-of-le-of-lt (le-of-eq (one-more k)) (below-53 (suc k) h)) (sum-small k (le-trans (le-suc k) h)))
 
   pub cost-finite : g .edges ≤ 2 ^ 32 → finite (poseGraphCost g pose) ≡ true

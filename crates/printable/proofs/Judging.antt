@@ -22,7 +22,7 @@ use Rattle.residual.specs.declared.Residual.the-variants.{Six, Failed}
 use Rattle.printable.specs.declared.Measures.{Measures}
 use Rattle.printable.specs.declared.Printable.{Printable}
 use Rattle.printable.specs.declared.Printable.the-variants as printable
-use Rattle.printable.specs.Measures.{residualAt, residualNorm, lastResidual, measuresOf}
+use Rattle.printable.specs.Measures.{edgeResidual, residualNorm, lastResidual, measuresOf}
 use Rattle.printable.specs.Measures.{unitVec, gravityCosine, leastCosine, gravityKept, smallestCosine, cosineOf}
 use Rattle.printable.specs.Printing.{finiteMeasures, costFell, lastNoWorse, usable, usableRun, printing, printingRun}
 use Rattle.printable.proofs.Costs.{Sound, residual-sound, length-finite, cost-finite}
@@ -196,8 +196,8 @@ last-finite (Six d) s = length-finite d s
 last-finite (Failed why) s = refl
 
 pub finite-measures : {P : Type 0} (g : Graph P Edge) (before after : ℕ → Pose) → g .edges ≤ 2 ^ 32
-    → finiteMeasures (measuresOf g before after) ≡ (hasResidual (residualAt g before (g .edges - 1)) && hasResidual (residualAt g after (g .edges - 1)))
+    → finiteMeasures (measuresOf g before after) ≡ (hasResidual (edgeResidual g before (g .edges - 1)) && hasResidual (edgeResidual g after (g .edges - 1)))
 unfolding measuresOf lastResidual
 finite-measures g before after few =
-    rw (cost-finite g before few, cost-finite g after few, last-finite (residualAt g before (g .edges - 1)) (residual-sound _ _ _))
-    (ap (λ b. hasResidual (residualAt g before (g .edges - 1)) && b) (last-finite (residualAt g after (g .edges - 1)) (residual-sound _ _ _)))
+    rw (cost-finite g before few, cost-finite g after few, last-finite (edgeResidual g before (g .edges - 1)) (residual-sound _ _ _))
+    (ap (λ b. hasResidual (edgeResidual g before (g .edges - 1)) && b) (last-finite (edgeResidual g after (g .edges - 1)) (residual-sound _ _ _)))

@@ -8,7 +8,7 @@ use Rattle.rotations.specs.declared.Vec3.{Vec3}
 use Rattle.rotations.specs.declared.Pose.{Pose}
 use Rattle.graph.specs.Graph.{Graph}
 use Rattle.graph.specs.declared.Edge.{Edge}
-use Rattle.printable.specs.Measures.{residualAt, withSquares, squaresUpTo, gravityCosine, smallestCosine}
+use Rattle.printable.specs.Measures.{edgeResidual, withSquares, squaresUpTo, gravityCosine, smallestCosine}
 
 -- ---- the cost
 
@@ -17,7 +17,7 @@ module _ {P : Type 0} (g : Graph P Edge) (pose : ℕ → Pose) where
   unfolding squaresUpTo ratio ofBits
   squares-none = refl
 
-  pub squares-more : (k : ℕ) {s : Float} → s ≡ squaresUpTo g pose k → withSquares (residualAt g pose k) s ≡ squaresUpTo g pose (k + 1)
+  pub squares-more : (k : ℕ) {s : Float} → s ≡ squaresUpTo g pose k → withSquares (edgeResidual g pose k) s ≡ squaresUpTo g pose (k + 1)
   unfolding squaresUpTo
   squares-more k e = rw (add-one, e)
 

@@ -26,8 +26,8 @@ use Rattle.printable.specs.declared.Measures.{Measures}
 -- ---- an edge
 
 -- the residual of edge k at the poses
-abbrev pub residualAt : {P : Type 0} → Graph P Edge → (ℕ → Pose) → ℕ → Residual
-residualAt g pose k = residualOf (pose (g .a k)) (pose (g .b k)) (g .measured k)
+abbrev pub edgeResidual : {P : Type 0} → Graph P Edge → (ℕ → Pose) → ℕ → Residual
+edgeResidual g pose k = residualOf (pose (g .a k)) (pose (g .b k)) (g .measured k)
 
 -- the sum of its six squares, in order, from +0
 unfoldable pub squaresOf : Twist → Float
@@ -41,7 +41,7 @@ withSquares (Failed why) sum = sum
 
 unfoldable pub squaresUpTo : {P : Type 0} → Graph P Edge → (ℕ → Pose) → ℕ → Float
 squaresUpTo g pose zero = num 0
-squaresUpTo g pose (suc k) = withSquares (residualAt g pose k) (squaresUpTo g pose k)
+squaresUpTo g pose (suc k) = withSquares (edgeResidual g pose k) (squaresUpTo g pose k)
 
 unfoldable pub poseGraphCost : {P : Type 0} → Graph P Edge → (ℕ → Pose) → Float
 poseGraphCost g pose = ratio 1 2 ⊗ squaresUpTo g pose (g .edges)
@@ -53,7 +53,7 @@ residualNorm (Six d) = root64 (squaresOf d)
 residualNorm (Failed why) = nan
 
 unfoldable pub lastResidual : {P : Type 0} → Graph P Edge → (ℕ → Pose) → Float
-lastResidual g pose = residualNorm (residualAt g pose (g .edges - 1))
+lastResidual g pose = residualNorm (edgeResidual g pose (g .edges - 1))
 
 unfoldable pub measuresOf : {P : Type 0} → Graph P Edge → (ℕ → Pose) → (ℕ → Pose) → Measures
 measuresOf g before after =

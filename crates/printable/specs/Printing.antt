@@ -34,7 +34,8 @@ usable converged kept m = converged && (finiteMeasures m && (kept && (costFell m
 abbrev pub usableRun : {P : Type 0} → Bool → Manifold → ℕ → Graph P Edge → (ℕ → Pose) → (ℕ → Pose) → Bool
 usableRun converged manifold poses g before after = usable converged (gravityKept manifold poses before after) (measuresOf g before after)
 
--- ---- why not. The measures are finite exactly where the last edge has a residual, before and after: `finite-measures` of proofs/Judging
+-- ---- why not. With at most 2^32 edges the measures are finite exactly where the last edge has a residual, before and after: `finite-measures` of
+-- proofs/Judging
 
 unfoldable pub printing : Bool → ℕ → ℕ → Float → Measures → Printable
 printing converged iterations limit cosine m =

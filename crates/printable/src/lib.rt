@@ -6,7 +6,7 @@ ghost use mathlib.Core.List.{[]};
 ghost use lib.ListN.{length};
 ghost use Rattle.numbers.specs.Notation.{if-then};
 ghost use Rattle.graph.specs.Lent.{poseAt, lentGraph};
-ghost use Rattle.printable.specs.Measures.{residualAt, squaresOf, withSquares, poseGraphCost, residualNorm, lastResidual, measuresOf};
+ghost use Rattle.printable.specs.Measures.{edgeResidual, squaresOf, withSquares, poseGraphCost, residualNorm, lastResidual, measuresOf};
 ghost use Rattle.printable.specs.Measures.{unitVec, gravityCosine, gravityKept, smallestCosine, cosineOf};
 ghost use Rattle.printable.specs.Printing.{usable, printing, finiteMeasures};
 use graph::Manifold;
@@ -39,7 +39,7 @@ pub enum Printable {
 
 fn weighted_edge_residual(poses: &[f64], ends: &[u32], edges: &[f32], k: usize) -> Residual
     requires { ⌜ k < 2 ^ 62 ⌝ }
-    ensures { λ r. ⌜ r ≡ residualAt (lentGraph [] (now (ends .entry)) (now (edges .entry)) []) (poseAt (now (poses .entry))) k ⌝ }
+    ensures { λ r. ⌜ r ≡ edgeResidual (lentGraph [] (now (ends .entry)) (now (edges .entry)) []) (poseAt (now (poses .entry))) k ⌝ }
 {
     let a = numbers::index_at(ends, k * 2);
     let b = numbers::index_at(ends, k * 2 + 1);
@@ -106,7 +106,7 @@ pub fn last_residual_norm(poses: &[f64], ends: &[u32], edges: &[f32]) -> f64
 }
 
 // Of the same edges at two lists of poses.
-pub fn measure(before: &[f64], after: &[f64], ends: &[u32], edges: &[f32]) -> Measures
+pub fn measures_at(before: &[f64], after: &[f64], ends: &[u32], edges: &[f32]) -> Measures
     ensures { λ r. ⌜ r ≡ measuresOf (lentGraph [] (now (ends .entry)) (now (edges .entry)) []) (poseAt (now (before .entry))) (poseAt (now (after .entry))) ⌝ }
 {
     Measures {

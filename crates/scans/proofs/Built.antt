@@ -18,10 +18,10 @@ use Rattle.numbers.proofs.Reading.{row-fault, row-at}
 use Rattle.graph.specs.Lent.{edgeFrom, edgeAt, endA, endB}
 use Rattle.graph.specs.declared.Edge.{Edge}
 use Rattle.scans.specs.declared.Node.the-variants.{At, Absent}
-use Rattle.scans.specs.Scans.{Scan, nodeBelow, nodeOf, edgeNumbers, candidateNode, queryNode, edgeOf, endsOf, endsTo, edgesTo}
+use Rattle.scans.specs.Scans.{Scan, nodeBelow, nodeOf, edgeNumbers, candidateNode, queryNode, scanEdge, scanEnds, endsTo, edgesTo}
 use Rattle.scans.specs.ScanRows.{scanRows, isAbsent, loopFaults}
 use Rattle.scans.proofs.Nodes.{below-here, below-past, ends-wide}
-use Rattle.scans.proofs.Strings.{strung-long, strung-at}
+use Rattle.numbers.proofs.Strung.{strung-long, strung-at}
 
 -- ---- nodes
 
@@ -93,31 +93,31 @@ absent-node ids id h = none-below ids id (length ids) h
 
 -- ---- edges: the first n, by number
 
-edge-of-numbers : (f : ℕ → Float) (e : Edge) → ((j : ℕ) → j < 8 → f j ≡ getD (edgeNumbers e) j nan) → edgeFrom f ≡ e
+scan-edge-numbers : (f : ℕ → Float) (e : Edge) → ((j : ℕ) → j < 8 → f j ≡ getD (edgeNumbers e) j nan) → edgeFrom f ≡ e
 unfolding edgeFrom
-edge-of-numbers f e h =
+scan-edge-numbers f e h =
     rw (h 0 (omega arith), h 1 (omega arith), h 2 (omega arith), h 3 (omega arith), h 4 (omega arith), h 5 (omega arith), h 6 (omega arith), h 7 (omega arith))
 
 module _ (s : Scan) (n : ℕ) where
   pub ends-long : length (endsTo s n) ≡ n * 2
-  ends-long = strung-long (endsOf (s .ids) (s .loops)) 2 (ends-wide (s .ids) (s .loops)) n
+  ends-long = strung-long (scanEnds (s .ids) (s .loops)) 2 (ends-wide (s .ids) (s .loops)) n
 
   pub edges-long : length (edgesTo s n) ≡ n * 8
-  edges-long = strung-long (λ k. edgeNumbers (edgeOf (length (s .ids) - 1) (s .poses) (s .loopPoses) (s .weight) k)) 8 (λ _. refl) n
+  edges-long = strung-long (λ k. edgeNumbers (scanEdge (length (s .ids) - 1) (s .poses) (s .loopPoses) (s .weight) k)) 8 (λ _. refl) n
 
   module _ (k : ℕ) (h : k < n) where
-    pub built-a : endA (endsTo s n) k ≡ getD (endsOf (s .ids) (s .loops) k) 0 0
+    pub built-a : endA (endsTo s n) k ≡ getD (scanEnds (s .ids) (s .loops) k) 0 0
     built-a =
         ap (λ (i : ℕ). getD (endsTo s n) i 0) (sym (add-zero (k * 2)))
-        ∙ strung-at (endsOf (s .ids) (s .loops)) 2 (ends-wide (s .ids) (s .loops)) n k 0 0 h (omega arith)
+        ∙ strung-at (scanEnds (s .ids) (s .loops)) 2 (ends-wide (s .ids) (s .loops)) n k 0 0 h (omega arith)
 
-    pub built-b : endB (endsTo s n) k ≡ getD (endsOf (s .ids) (s .loops) k) 1 0
-    built-b = strung-at (endsOf (s .ids) (s .loops)) 2 (ends-wide (s .ids) (s .loops)) n k 1 0 h (omega arith)
+    pub built-b : endB (endsTo s n) k ≡ getD (scanEnds (s .ids) (s .loops) k) 1 0
+    built-b = strung-at (scanEnds (s .ids) (s .loops)) 2 (ends-wide (s .ids) (s .loops)) n k 1 0 h (omega arith)
 
-    pub built-edge : edgeAt (edgesTo s n) k ≡ edgeOf (length (s .ids) - 1) (s .poses) (s .loopPoses) (s .weight) k
+    pub built-edge : edgeAt (edgesTo s n) k ≡ scanEdge (length (s .ids) - 1) (s .poses) (s .loopPoses) (s .weight) k
     built-edge =
-        edge-of-numbers (λ j. getD (edgesTo s n) (k * 8 + j) nan) (edgeOf (length (s .ids) - 1) (s .poses) (s .loopPoses) (s .weight) k)
-        (λ j q. strung-at (λ k. edgeNumbers (edgeOf (length (s .ids) - 1) (s .poses) (s .loopPoses) (s .weight) k)) 8 (λ _. refl) n k j nan h q)
+        scan-edge-numbers (λ j. getD (edgesTo s n) (k * 8 + j) nan) (scanEdge (length (s .ids) - 1) (s .poses) (s .loopPoses) (s .weight) k)
+        (λ j q. strung-at (λ k. edgeNumbers (scanEdge (length (s .ids) - 1) (s .poses) (s .loopPoses) (s .weight) k)) 8 (λ _. refl) n k j nan h q)
 
 -- ---- past rows 33 and 34 every loop names two keyframes
 

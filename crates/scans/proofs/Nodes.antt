@@ -11,7 +11,7 @@ use Rattle.numbers.specs.Notation.{if-then}
 use Rattle.numbers.proofs.Choices.{taken, left}
 use Rattle.scans.specs.declared.Node.{Node}
 use Rattle.scans.specs.declared.Node.the-variants.{At, Absent}
-use Rattle.scans.specs.Scans.{nodeBelow, nodeOf, nodeNumber, endsOf}
+use Rattle.scans.specs.Scans.{nodeBelow, nodeOf, nodeNumber, scanEnds}
 
 pub below-here : (ids : List ℕ) (id n : ℕ) → getD ids n 0 ≡ id → nodeBelow ids id (suc n) ≡ At n
 unfolding nodeBelow
@@ -50,8 +50,8 @@ pub node-small : (ids : List ℕ) (id : ℕ) {n : Node} → n ≡ nodeOf ids id 
 node-small ids id e = rw e (below-small ids id (length ids))
 
 -- the ends of an edge are two
-pub ends-wide : (ids loops : List ℕ) (k : ℕ) → length (endsOf ids loops k) ≡ 2
-unfolding endsOf if-then
+pub ends-wide : (ids loops : List ℕ) (k : ℕ) → length (scanEnds ids loops k) ≡ 2
+unfolding scanEnds if-then
 ends-wide ids loops k = go (ltb k (length ids - 1)) _ _ _ _
   where
     go : (b : Bool) (x y u v : ℕ) → length (if-then b (x ∷ y ∷ []) (u ∷ v ∷ [])) ≡ 2

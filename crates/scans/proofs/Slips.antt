@@ -11,9 +11,10 @@ use Rattle.rotations.specs.Rotation.{plus, minus, turned, transpose, matProduct
 use Rattle.rotations.specs.declared.Vec3F32.{Vec3F32}
 use Rattle.pose_conversion.specs.Conversions.{vecF32, transformOf}
 use Rattle.graph.specs.Lent.{poseFrom, edgeFrom, edgeAt}
+use Rattle.numbers.specs.Walks.{strung}
 use Rattle.scans.specs.declared.Node.the-variants.{At}
 use Rattle.scans.specs.Scans.{Scan, scan, nodeBelow, nodeOf, inversePose, poseProduct, between}
-use Rattle.scans.specs.Scans.{chainEdge, loopEdge, edgeOf, endsOf, strung, edgeCount, endsTo, edgesTo}
+use Rattle.scans.specs.Scans.{chainEdge, loopEdge, scanEdge, scanEnds, edgeCount, endsTo, edgesTo}
 use Rattle.scans.specs.ScanRows.{unfitScan, scanRows}
 
 -- ---- which keyframe
@@ -83,11 +84,11 @@ module _ (poses loopPoses : List Float) (weight : Float) where
   chain-count = refl
 
   chain-last : edgeAt (edgesTo chained 2) 1 ≡ chainEdge poses 1
-  unfolding edgeOf strung edgeFrom if-then
+  unfolding scanEdge strung edgeFrom if-then
   chain-last = refl
 
   chain-ends : endsTo chained 2 ≡ 0 ∷ 1 ∷ 1 ∷ 2 ∷ []
-  unfolding endsOf strung if-then
+  unfolding scanEnds strung if-then
   chain-ends = refl
 
   chain-weight : chainEdge poses 1 .weight ≡ num 1
@@ -96,11 +97,11 @@ module _ (poses loopPoses : List Float) (weight : Float) where
 
   -- h. the loops' come after it, from candidate to query, of the weight given
   loop-ends : endsTo looped (edgeCount looped) ≡ 0 ∷ 1 ∷ 1 ∷ 2 ∷ 2 ∷ 0 ∷ []
-  unfolding endsOf strung nodeBelow if-then
+  unfolding scanEnds strung nodeBelow if-then
   loop-ends = refl
 
   loop-last : edgeAt (edgesTo looped 3) 2 ≡ loopEdge loopPoses weight 0
-  unfolding edgeOf strung edgeFrom if-then
+  unfolding scanEdge strung edgeFrom if-then
   loop-last = refl
 
   loop-weight : loopEdge loopPoses weight 0 .weight ≡ weight

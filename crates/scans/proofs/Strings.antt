@@ -9,33 +9,14 @@ use native.Mathlib.Numerals.{add-one}
 use native.Mathlib.Omega.{arith}
 use lib.ListN.{length, getD, take, drop, set, replicate, length-append, length-replicate, length-set, List·getD-append}
 use lib.Seq.{take-at, drop-append-add, getD-append-add, sets-eq, take-all, paste, paste-zero, paste-suc}
-use Rattle.scans.specs.Scans.{strung}
+use Rattle.numbers.specs.Walks.{strung}
+use Rattle.numbers.proofs.Strung.{strung-long}
 
 drop-replicate : {A : Type 0} (n r : ℕ) (z : A) → drop n (replicate (n + r) z) ≡ replicate r z
 drop-replicate zero r z = ap (λ (m : ℕ). replicate m z) (zero-add r)
 drop-replicate (suc n) r z = ap (λ (m : ℕ). drop (suc n) (replicate m z)) (suc-add n r) ∙ drop-replicate n r z
 
 module _ {A : Type 0} (f : ℕ → List A) (w : ℕ) where
-  module _ (wide : (k : ℕ) → length (f k) ≡ w) where
-    pub strung-long : (n : ℕ) → length (strung f n) ≡ n * w
-    unfolding strung
-    strung-long zero = sym (zero-mul w)
-    strung-long (suc n) = length-append (strung f n) (f n) ∙ ap₂ (λ (a b : ℕ). a + b) (strung-long n) (wide n) ∙ sym (suc-mul n w)
-
-    pub strung-at : (n k j : ℕ) (d : A) → k < n → j < w → getD (strung f n) (k * w + j) d ≡ getD (f k) j d
-    unfolding strung
-    strung-at zero k j d l i = absurd (not-suc-le-zero l)
-    strung-at (suc n) k j d l i =
-        ⊎-elim
-        (λ (e : k ≡ n). subst (λ (m : ℕ). getD (strung f n ++ f n) (m * w + j) d ≡ getD (f m) j d) (sym e)
-        (ap (λ (m : ℕ). getD (strung f n ++ f n) (m + j) d) (sym (strung-long n)) ∙ getD-append-add (strung f n) (f n) j d))
-        (λ (h : k < n).
-        let m : suc k * w ≤ n * w = mul-le-mul-right w h in
-        let s : length (strung f n) ≡ n * w = strung-long n in
-        let b : k * w + j < length (strung f n) = omega (arith, suc-mul k w) in
-        List·getD-append (strung f n) (f n) d (k * w + j) b ∙ strung-at n k j d h i)
-        (eq-or-lt-of-le (le-of-suc-le-suc l))
-
   -- l has N elements: the first k rows, and z in what is left
   pub record Filled (N : ℕ) (z : A) (l : List A) (k : ℕ) : Type 0 where
     pub long : length l ≡ N
@@ -55,7 +36,7 @@ module _ {A : Type 0} (f : ℕ → List A) (w : ℕ) where
         → take (k * w) l ++ f k ++ drop (k * w + w) l ≡ strung f (suc k) ++ replicate (N - suc k * w) z
     unfolding strung
     grown {N} {z} {l} {k} h b =
-        let s : length (strung f k) ≡ k * w = strung-long wide k in
+        let s : length (strung f k) ≡ k * w = strung-long f w wide k in
         let e : N - k * w ≡ w + (N - suc k * w) = omega (arith, suc-mul k w) in
         ap (λ (l : List A). take (k * w) l ++ f k ++ drop (k * w + w) l) (h .is)
         ∙ ap₂ (λ (a b : List A). a ++ f k ++ b)

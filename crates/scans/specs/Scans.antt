@@ -6,6 +6,7 @@ use lib.Dec.{eqb, ltb}
 use lib.ListN.{length, getD}
 use lib.Ieee.{Float}
 use Rattle.numbers.specs.Notation.{num, if-then}
+use Rattle.numbers.specs.Walks.{strung}
 use Rattle.rotations.specs.Rotation.{plus, minus, turned, transpose, matProduct}
 use Rattle.rotations.specs.declared.Pose.{Pose}
 use Rattle.rotations.specs.declared.Transform.{Transform}
@@ -67,21 +68,21 @@ between earlier later = poseProduct later (inversePose earlier)
 
 -- ---- the edges: those of the chain first, one fewer than keyframes; then those of the loops
 
-abbrev pub weighted : Transform → Float → Edge
-weighted measured weight = record { measured = measured; weight = weight }
+abbrev pub edgeWith : Transform → Float → Edge
+edgeWith measured weight = record { measured = measured; weight = weight }
 
 -- measured in f64, then narrowed
 unfoldable pub chainEdge : List Float → ℕ → Edge
-chainEdge poses k = weighted (transformOf (between (poseAt poses k) (poseAt poses (k + 1)))) (num 1)
+chainEdge poses k = edgeWith (transformOf (between (poseAt poses k) (poseAt poses (k + 1)))) (num 1)
 
 unfoldable pub loopEdge : List Float → Float → ℕ → Edge
-loopEdge poses weight k = weighted (transformOf (poseAt poses k)) weight
+loopEdge poses weight k = edgeWith (transformOf (poseAt poses k)) weight
 
-unfoldable pub edgeOf : ℕ → List Float → List Float → Float → ℕ → Edge
-edgeOf chain poses loopPoses weight k = if-then (ltb k chain) (chainEdge poses k) (loopEdge loopPoses weight (k - chain))
+unfoldable pub scanEdge : ℕ → List Float → List Float → Float → ℕ → Edge
+scanEdge chain poses loopPoses weight k = if-then (ltb k chain) (chainEdge poses k) (loopEdge loopPoses weight (k - chain))
 
-unfoldable pub endsOf : List ℕ → List ℕ → ℕ → List ℕ
-endsOf ids loops k =
+unfoldable pub scanEnds : List ℕ → List ℕ → ℕ → List ℕ
+scanEnds ids loops k =
     let chain = length ids - 1 in
     if-then (ltb k chain)
     (k ∷ (k + 1) ∷ [])
@@ -93,20 +94,15 @@ edgeNumbers e =
     e.measured .q .x ∷ e.measured .q .y ∷ e.measured .q .z ∷ e.measured .q .w
     ∷ e.measured .t .x ∷ e.measured .t .y ∷ e.measured .t .z ∷ e.weight ∷ []
 
--- f 0, then f 1, .. then f (n - 1)
-unfoldable pub strung : {A : Type 0} → (ℕ → List A) → ℕ → List A
-strung f zero = []
-strung f (suc n) = strung f n ++ f n
-
 abbrev pub edgeCount : Scan → ℕ
 edgeCount s = length (s .ids) - 1 + length (s .loops) / 2
 
 -- the first n edges
 abbrev pub endsTo : Scan → ℕ → List ℕ
-endsTo s n = strung (endsOf (s .ids) (s .loops)) n
+endsTo s n = strung (scanEnds (s .ids) (s .loops)) n
 
 abbrev pub edgesTo : Scan → ℕ → List Float
-edgesTo s n = strung (λ k. edgeNumbers (edgeOf (length (s .ids) - 1) (s .poses) (s .loopPoses) (s .weight) k)) n
+edgesTo s n = strung (λ k. edgeNumbers (scanEdge (length (s .ids) - 1) (s .poses) (s .loopPoses) (s .weight) k)) n
 
 -- ---- the graph
 

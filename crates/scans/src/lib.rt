@@ -5,8 +5,9 @@ ghost use Prim.Native.Nat.{_+_, _-_, _*_, _/_, _<_, _≤_, _^_, min};
 ghost use lib.ListN.{length, take, drop, replicate};
 ghost use Rattle.numbers.specs.Notation.{num};
 ghost use Rattle.numbers.specs.Refusals.{verdict, says, orElse, lowest};
+ghost use Rattle.numbers.specs.Walks.{strung};
 ghost use Rattle.scans.specs.Scans.{nodeOf, candidateNode, queryNode, nodeNumber, inversePose, poseProduct};
-ghost use Rattle.scans.specs.Scans.{between as Scans·between, chainEdge, loopEdge, edgeOf, endsOf, edgeNumbers, strung};
+ghost use Rattle.scans.specs.Scans.{between as Scans·between, chainEdge, loopEdge, scanEdge, scanEnds, edgeNumbers};
 ghost use Rattle.scans.specs.ScanRows.{unfitScan, isAbsent, loopFaults, scanRows};
 use graph::Edge;
 use numbers::Verdict;
@@ -19,7 +20,7 @@ pub enum Node {
 }
 
 // The two ends of an edge.
-struct Ends {
+struct EdgeEnds {
     a: u32,
     b: u32,
 }
@@ -183,9 +184,9 @@ fn loop_edge(loop_poses: &[f64], weight: f32, k: usize) -> Edge
 }
 
 // Edge k, where the first `chain` are the chain's.
-fn edge_of(chain: usize, poses: &[f64], loop_poses: &[f64], weight: f32, k: usize) -> Edge
+fn scan_edge(chain: usize, poses: &[f64], loop_poses: &[f64], weight: f32, k: usize) -> Edge
     requires { ⌜ k < 2 ^ 62 ⌝ }
-    ensures { λ r. ⌜ r ≡ edgeOf chain (now (poses .entry)) (now («loop_poses» .entry)) weight k ⌝ }
+    ensures { λ r. ⌜ r ≡ scanEdge chain (now (poses .entry)) (now («loop_poses» .entry)) weight k ⌝ }
 {
     if k < chain {
         return chain_edge(poses, k);
@@ -215,13 +216,13 @@ fn put_edge(edges: &mut [f32], k: usize, e: Edge)
     }
 }
 
-fn blank_edges() -> [f32; 8200]
+fn zero_edges() -> [f32; 8200]
     ensures { λ r. ⌜ r ≡ replicate 8200 (num 0) ⌝ }
 {
     [0.0; 8200]
 }
 
-fn blank_ends() -> [u32; 2050]
+fn zero_ends() -> [u32; 2050]
     ensures { λ r. ⌜ r ≡ replicate 2050 0 ⌝ }
 {
     [0; 2050]
@@ -235,15 +236,19 @@ pub fn built_edges(
     weight: f32,
     n: usize,
 ) -> [f32; 8200]
-    ensures { λ r. ⌜ r ≡ strung (λ k. edgeNumbers (edgeOf (keyframes - 1) (now (poses .entry)) (now («loop_poses» .entry)) weight k)) (min n 1025)
+    ensures { λ r. ⌜ r ≡ strung (λ k. edgeNumbers (scanEdge (keyframes - 1) (now (poses .entry)) (now («loop_poses» .entry)) weight k)) (min n 1025)
         ++ replicate (8200 - min n 1025 * 8) (num 0) ⌝ }
 {
     let chain = numbers::index_before(keyframes);
     let most = numbers::smaller_of(n, MOST_BUILT);
-    let mut edges = blank_edges();
+    let mut edges = zero_edges();
     let mut k = 0usize;
     while k < most {
-        put_edge(&mut edges, k, edge_of(chain, poses, loop_poses, weight, k));
+        put_edge(
+            &mut edges,
+            k,
+            scan_edge(chain, poses, loop_poses, weight, k),
+        );
         k += 1;
     }
     edges
@@ -260,20 +265,20 @@ fn node_number(n: Node) -> u32
 }
 
 // The two ends of edge k. Where it is a loop's there are at most k + 1 keyframes.
-fn ends_of(ids: &[u32], loops: &[u32], k: usize) -> Ends
+fn scan_ends(ids: &[u32], loops: &[u32], k: usize) -> EdgeEnds
     requires { ⌜ k < 1025 ⌝ }
-    ensures { λ r. ⌜ r .a ∷ r .b ∷ [] ≡ endsOf (now (ids .entry)) (now (loops .entry)) k ⌝ }
+    ensures { λ r. ⌜ r .a ∷ r .b ∷ [] ≡ scanEnds (now (ids .entry)) (now (loops .entry)) k ⌝ }
 {
     let chain = numbers::index_before(ids.len());
     if k < chain {
-        return Ends {
+        return EdgeEnds {
             a: k as u32,
             b: (k + 1) as u32,
         };
     }
     let candidate = candidate_node(ids, loops, k - chain);
     let query = query_node(ids, loops, k - chain);
-    Ends {
+    EdgeEnds {
         a: node_number(candidate),
         b: node_number(query),
     }
@@ -281,13 +286,13 @@ fn ends_of(ids: &[u32], loops: &[u32], k: usize) -> Ends
 
 // The ends of the first n edges; no more than are built.
 pub fn built_ends(ids: &[u32], loops: &[u32], n: usize) -> [u32; 2050]
-    ensures { λ r. ⌜ r ≡ strung (endsOf (now (ids .entry)) (now (loops .entry))) (min n 1025) ++ replicate (2050 - min n 1025 * 2) 0 ⌝ }
+    ensures { λ r. ⌜ r ≡ strung (scanEnds (now (ids .entry)) (now (loops .entry))) (min n 1025) ++ replicate (2050 - min n 1025 * 2) 0 ⌝ }
 {
     let most = numbers::smaller_of(n, MOST_BUILT);
-    let mut ends = blank_ends();
+    let mut ends = zero_ends();
     let mut k = 0usize;
     while k < most {
-        let pair = ends_of(ids, loops, k);
+        let pair = scan_ends(ids, loops, k);
         let at = k * 2;
         ends[at] = pair.a;
         ends[at + 1] = pair.b;

@@ -1,5 +1,5 @@
--- What a joined run says of its costs is so: the first is that of the poses given, the last that of the poses given back; so every active edge has a residual at
--- both. For a first damping that is an f32. Assumes nothing.
+-- What a joined run says of its costs is so: the first is that of the poses given, the last that of the poses given back; so every active edge has a
+-- residual at both. For a first damping that is an f32. Assumes nothing.
 use mathlib.Core.Path.{_≡_, refl, sym, ap, subst, _∙_}
 use mathlib.Core.Bool.{Bool, true, false, not, _&&_, _||_, or-true}
 use mathlib.Core.List.{List}
@@ -35,7 +35,8 @@ use Rattle.decisions.proofs.Holding.{played-holds}
 use Rattle.sparse_pgo.specs.declared.Joined.{Joined}
 use Rattle.sparse_pgo.specs.declared.Answer.{Answer}
 use Rattle.sparse_pgo.specs.declared.Answer.the-variants as answer
-use Rattle.sparse_pgo.specs.Parts.{Parts, Found, step, noStep, pricedAs, trialAs, stepAs, attemptAs, stepTo, movedTo, numerics, joinedOf, answerOf, wholeFrom, whole}
+use Rattle.sparse_pgo.specs.Parts.{Parts, Found, step, noStep, pricedAs, trialAs, stepAs, attemptAs, stepTo, movedTo, numerics}
+use Rattle.sparse_pgo.specs.Parts.{joinedOf, answerOf, wholeFrom, whole}
 use Rattle.sparse_pgo.specs.Numerics.{partsOn}
 use Rattle.sparse_pgo.specs.Optimize.{After, afterChecks, ran, optimized}
 use Rattle.sparse_pgo.proofs.Looping.{not-above}
@@ -78,7 +79,8 @@ module _ {X S D : Type 0} (p : Parts X S D) where
         → (c ≡ j .«first_cost») × (p .cost (y .held) ≡ done (j .«last_cost»))
     last-cost c y h = go (y .next) h
       where
-        go : (n : Next) → p .cost (y .held) ≡ done (stateOf n .cost) → answerOf c n ≡ answer.Joined j → (c ≡ j .«first_cost») × (p .cost (y .held) ≡ done (j .«last_cost»))
+        go : (n : Next) → p .cost (y .held) ≡ done (stateOf n .cost) → answerOf c n ≡ answer.Joined j
+            → (c ≡ j .«first_cost») × (p .cost (y .held) ≡ done (j .«last_cost»))
         go (next.On s) h q = let z : _≡_ {A = ℕ} 0 1 = cc in absurd (omega arith)
         go (next.Over s (end.Refused r)) h q = let z : _≡_ {A = ℕ} 0 1 = cc in absurd (omega arith)
         go (next.Over s (end.Stopped w)) h q = let e : joinedOf c s w ≡ j = cc in rw (← e) (refl, h)
@@ -124,7 +126,8 @@ module _ (i : Input) (work32 work64 out : List Float) (j : Joined) (e : optimize
   unfolding optimized
   joined-fit = go (checks i .answer) refl e
     where
-      go : (v : Checked) → checks i .answer ≡ v → afterChecks i work32 work64 out v .answer ≡ answer.Joined j → (c : Counts) × (checks i .answer ≡ checked.Fit c)
+      go : (v : Checked) → checks i .answer ≡ v → afterChecks i work32 work64 out v .answer ≡ answer.Joined j
+          → (c : Counts) × (checks i .answer ≡ checked.Fit c)
       go (checked.Turned r) h q = let z : _≡_ {A = ℕ} 0 1 = cc in absurd (omega arith)
       go (checked.Fit c) h q = (c, h)
 
@@ -136,10 +139,15 @@ module _ (i : Input) (work32 work64 out : List Float) (j : Joined) (e : optimize
         rw (come-out i work32 work64 out c h e)
         (joined-costs (runParts i) (i .settings) (fit i c h .0 .settings) f (i .poses) j (answered i work32 work64 out c h e))
 
+    -- whether edge k has a residual with the poses at these numbers
+    abbrev pub hasAt : List Float → ℕ → Bool
+    hasAt l k = hasResidual (residualOf (poseAt l (graphOf i .a k)) (poseAt l (graphOf i .b k)) (graphOf i .measured k))
+
     -- at the poses given and at those given back
     pub active-residuals : (k : ℕ) → k < graphOf i .edges → isActive (linksOf (graphOf i)) k ≡ true
-        → (hasResidual (residualOf (poseAt (i .poses) (graphOf i .a k)) (poseAt (i .poses) (graphOf i .b k)) (graphOf i .measured k)) ≡ true)
-        × (hasResidual (residualOf (poseAt (optimized i work32 work64 out .out) (graphOf i .a k)) (poseAt (optimized i work32 work64 out .out) (graphOf i .b k)) (graphOf i .measured k)) ≡ true)
+        → (hasAt (i .poses) k ≡ true) × (hasAt (optimized i work32 work64 out .out) k ≡ true)
     unfolding partsOn linksOf
-    active-residuals k h a =
-        (cost-residuals (linksOf (graphOf i)) (poseAt (i .poses)) _ (costs-so .0) k h a, cost-residuals (linksOf (graphOf i)) (poseAt (optimized i work32 work64 out .out)) _ (costs-so .1) k h a)
+    active-residuals k h a = (
+      cost-residuals (linksOf (graphOf i)) (poseAt (i .poses)) _ (costs-so .0) k h a,
+      cost-residuals (linksOf (graphOf i)) (poseAt (optimized i work32 work64 out .out)) _ (costs-so .1) k h a,
+    )

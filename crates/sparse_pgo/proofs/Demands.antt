@@ -149,7 +149,8 @@ module _ (i : Input) (work32 work64 out : List Float) where
       go (checked.Fit c) h e = absurd (whole-other (runParts i) 26 (omega arith) (i .settings) (i .poses) (refusal 26 x) e refl)
 
   -- no number above 22 that stands not in the table
-  pub never-refused : (r : Refusal) → 22 < r .number → amongRows (r .number) (drop 1 (rows i)) ≡ false → optimized i work32 work64 out .answer ≡ answer.Refused r → ⊥
+  pub never-refused : (r : Refusal) → 22 < r .number → amongRows (r .number) (drop 1 (rows i)) ≡ false
+      → optimized i work32 work64 out .answer ≡ answer.Refused r → ⊥
   unfolding optimized ran checks
   never-refused r above other e = go (checks i .answer) refl e
     where

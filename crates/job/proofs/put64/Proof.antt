@@ -3,7 +3,8 @@ use native.Mathlib.Omega.{arith}
 use mathlib.Core.Path.{_≡_, refl, sym, _∙_}
 use denote.Ref.{now}
 use lib.ListN.{length}
-use Rattle.job.specs.Bytes.{bytesFrom, joined, pasted}
+use Rattle.numbers.specs.Walks.{strung}
+use Rattle.job.specs.Bytes.{bytesFrom, pasted}
 use Rattle.job.proofs.Pasting.{pasted-none}
 use Rattle.job.proofs.Writing.{turn-fits, number-put}
 use Rattle.job.proofs.put64.Statement.{statement}
@@ -16,7 +17,7 @@ abbrev μ-loop : tie.MeasureT-loop
 μ-loop out₀ at ns from n i₀ out i = n - i
 
 loop-holds : tie.Need-loop-holds Inv-loop μ-loop
-unfolding joined
+unfolding strung
 loop-holds c = (omega arith, refl, sym (pasted-none _ _))
 
 mul-put : tie.Need-mul-put Inv-loop μ-loop

@@ -4,7 +4,8 @@ use native.Mathlib.Omega.{arith}
 use mathlib.Core.Path.{_≡_, refl, sym, _∙_}
 use denote.Ref.{now}
 use lib.ListN.{length}
-use Rattle.job.specs.Bytes.{joined, pasted}
+use Rattle.numbers.specs.Walks.{strung}
+use Rattle.job.specs.Bytes.{pasted}
 use Rattle.job.specs.Format.{fixedRecord}
 use Rattle.job.proofs.Pasting.{pasted-none}
 use Rattle.job.proofs.Writing.{turn-fits, fixed-put}
@@ -12,13 +13,13 @@ use Rattle.job.proofs.put_fixed.Statement.{statement}
 use Rattle.job.proofs.put_fixed.Tie as tie
 
 abbrev Inv-loop : tie.InvT-loop
-Inv-loop out₀ at fixed i₀ out i = (i ≤ length fixed) × (length out ≡ length out₀) × (out ≡ pasted at (joined (fixedRecord fixed) i) out₀)
+Inv-loop out₀ at fixed i₀ out i = (i ≤ length fixed) × (length out ≡ length out₀) × (out ≡ pasted at (strung (fixedRecord fixed) i) out₀)
 
 abbrev μ-loop : tie.MeasureT-loop
 μ-loop out₀ at fixed i₀ out i = length fixed - i
 
 loop-holds : tie.Need-loop-holds Inv-loop μ-loop
-unfolding joined
+unfolding strung
 loop-holds c = (omega arith, refl, sym (pasted-none _ _))
 
 mul-put-header : tie.Need-mul-put-header Inv-loop μ-loop

@@ -4,7 +4,8 @@ use native.Mathlib.Omega.{arith}
 use mathlib.Core.Path.{_≡_, refl, sym, _∙_}
 use denote.Ref.{now}
 use lib.ListN.{length}
-use Rattle.job.specs.Bytes.{joined, pasted}
+use Rattle.numbers.specs.Walks.{strung}
+use Rattle.job.specs.Bytes.{pasted}
 use Rattle.job.specs.Format.{poseRecord}
 use Rattle.job.proofs.Pasting.{pasted-none}
 use Rattle.job.proofs.Writing.{turn-fits, pose-put}
@@ -12,13 +13,13 @@ use Rattle.job.proofs.put_poses.Statement.{statement}
 use Rattle.job.proofs.put_poses.Tie as tie
 
 abbrev Inv-loop : tie.InvT-loop
-Inv-loop out₀ at poses n i₀ out i = (i ≤ n) × (length out ≡ length out₀) × (out ≡ pasted at (joined (poseRecord poses) i) out₀)
+Inv-loop out₀ at poses n i₀ out i = (i ≤ n) × (length out ≡ length out₀) × (out ≡ pasted at (strung (poseRecord poses) i) out₀)
 
 abbrev μ-loop : tie.MeasureT-loop
 μ-loop out₀ at poses n i₀ out i = n - i
 
 loop-holds : tie.Need-loop-holds Inv-loop μ-loop
-unfolding joined
+unfolding strung
 loop-holds c = (omega arith, refl, sym (pasted-none _ _))
 
 mul-put-header : tie.Need-mul-put-header Inv-loop μ-loop

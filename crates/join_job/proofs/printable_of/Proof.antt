@@ -4,8 +4,8 @@ use borrow.Author.Needs.{needs}
 use Rattle.join_job.proofs.printable_of.Statement.{statement}
 use Rattle.join_job.proofs.printable_of.Tie as tie
 
-measure-requires : tie.Need-measure-requires
-measure-requires c κs = search needs
+measures-at-requires : tie.Need-measures-at-requires
+measures-at-requires c κs = search needs
 
 min-gravity-cosine-requires : tie.Need-min-gravity-cosine-requires
 min-gravity-cosine-requires c κs = search needs
@@ -15,9 +15,9 @@ may-be-printed-requires c κs = search needs
 
 returns : tie.Need-returns
 unfolding printableOf
-returns c = rw (c .may-be-printed .ensures, c .before .min-gravity-cosine .ensures, c .before .before .measure .ensures)
+returns c = rw (c .may-be-printed .ensures, c .before .min-gravity-cosine .ensures, c .before .before .measures-at .ensures)
 
 pub printable-of-spec : {M : Type 1} → statement M
 printable-of-spec =
     tie.close
-    (tie.spec measure-requires min-gravity-cosine-requires may-be-printed-requires returns)
+    (tie.spec measures-at-requires min-gravity-cosine-requires may-be-printed-requires returns)

@@ -4,33 +4,33 @@ use borrow.Author.Needs.{needs}
 use Rattle.line.proofs.digits_text.Statement.{statement}
 use Rattle.line.proofs.digits_text.Tie as tie
 
-digit-requires : tie.Need-digit-requires
-digit-requires c κs = search needs
+digit-byte-requires : tie.Need-digit-byte-requires
+digit-byte-requires c κs = search needs
 
-digit-requires-2 : tie.Need-digit-requires-2
-digit-requires-2 c κs = search needs
+digit-byte-requires-2 : tie.Need-digit-byte-requires-2
+digit-byte-requires-2 c κs = search needs
 
-digit-requires-3 : tie.Need-digit-requires-3
-digit-requires-3 c κs = search needs
+digit-byte-requires-3 : tie.Need-digit-byte-requires-3
+digit-byte-requires-3 c κs = search needs
 
-digit-requires-4 : tie.Need-digit-requires-4
-digit-requires-4 c κs = search needs
+digit-byte-requires-4 : tie.Need-digit-byte-requires-4
+digit-byte-requires-4 c κs = search needs
 
-digit-requires-5 : tie.Need-digit-requires-5
-digit-requires-5 c κs = search needs
+digit-byte-requires-5 : tie.Need-digit-byte-requires-5
+digit-byte-requires-5 c κs = search needs
 
-digit-requires-6 : tie.Need-digit-requires-6
-digit-requires-6 c κs = search needs
+digit-byte-requires-6 : tie.Need-digit-byte-requires-6
+digit-byte-requires-6 c κs = search needs
 
 returns : tie.Need-returns
 returns c =
     rw (
-      c .digit6 .ensures,
-      c .before .digit5 .ensures,
-      c .before .before .digit4 .ensures,
-      c .before .before .before .digit3 .ensures,
-      c .before .before .before .before .digit2 .ensures,
-      c .before .before .before .before .before .digit .ensures,
+      c .digit-byte6 .ensures,
+      c .before .digit-byte5 .ensures,
+      c .before .before .digit-byte4 .ensures,
+      c .before .before .before .digit-byte3 .ensures,
+      c .before .before .before .before .digit-byte2 .ensures,
+      c .before .before .before .before .before .digit-byte .ensures,
     )
     (by-digits _)
 
@@ -38,10 +38,10 @@ pub digits-text-spec : {M : Type 1} → statement M
 digits-text-spec =
     tie.close
     (tie.spec
-    digit-requires
-    digit-requires-2
-    digit-requires-3
-    digit-requires-4
-    digit-requires-5
-    digit-requires-6
+    digit-byte-requires
+    digit-byte-requires-2
+    digit-byte-requires-3
+    digit-byte-requires-4
+    digit-byte-requires-5
+    digit-byte-requires-6
     returns)

@@ -22,8 +22,8 @@ returns c = c .with-text .ensures ∙ ap (withText _) (taken _ (c .before .befor
 by-tens-requires : tie.Need-by-tens-requires
 by-tens-requires c κs = search needs
 
-six-of-requires : tie.Need-six-of-requires
-six-of-requires c κs = search needs
+rounded-six-requires : tie.Need-rounded-six-requires
+rounded-six-requires c κs = search needs
 
 with-six-requires : tie.Need-with-six-requires
 with-six-requires c κs = search needs
@@ -31,7 +31,7 @@ with-six-requires c κs = search needs
 returns-2 : tie.Need-returns-2
 unfolding sizeText ratio ofBits div
 returns-2 c =
-    rw (c .with-six .ensures, c .before .six-of .ensures .0, c .before .before .by-tens .ensures .0)
+    rw (c .with-six .ensures, c .before .rounded-six .ensures .0, c .before .before .by-tens .ensures .0)
     (ap (withText _) (left _ (c .before .before .before .before .if1 .left) (taken _ (c .before .before .before .if2 .taken) refl)))
 
 slice-aggregate-with-text-2 : tie.Need-slice-aggregate-with-text-2
@@ -52,7 +52,7 @@ with-size-spec =
     with-text-requires
     returns
     by-tens-requires
-    six-of-requires
+    rounded-six-requires
     with-six-requires
     returns-2
     slice-aggregate-with-text-2

@@ -6,7 +6,7 @@ use borrow.Author.Needs.{needs}
 use denote.Ref.{now}
 use Rattle.scans.specs.Scans.{scan}
 use Rattle.pose_graph.proofs.Large.{at-built, ends-front, edges-front, original-long}
-use Rattle.pose_graph.proofs.Promises.{turned-down, run-of-built}
+use Rattle.pose_graph.proofs.Promises.{turned-down, run-if-fine}
 use Rattle.pose_graph.proofs.optimize_pose_graph.Statement.{statement}
 use Rattle.pose_graph.proofs.optimize_pose_graph.Tie as tie
 
@@ -40,24 +40,29 @@ mul-g c = search needs
 array-share-prefix-ends : tie.Need-array-share-prefix-ends
 array-share-prefix-ends c = search needs
 
-slice-aggregate-close : tie.Need-slice-aggregate-close
-slice-aggregate-close c =
-    let a = c .before .before .before .before .before .before .before .before .before .before .before .before .before .before .before .args in
-    sym (length-take-le _ _ (ends-front (scan (now (a .ids)) (now (a .poses)) (now (a .loops)) (now (a .loop-poses)) (a .config .«loop_edge_weight»)) _ (c .before .before .before .edges-built .ensures) _ (c .before .before .built-ends .ensures)))
+slice-aggregate-run-and-judge : tie.Need-slice-aggregate-run-and-judge
+slice-aggregate-run-and-judge c =
+    let x = c .before .before in
+    let a = x .before .before .before .before .before .before .before .before .before .before .before .before .before .args in
+    let s = scan (now (a .ids)) (now (a .poses)) (now (a .loops)) (now (a .loop-poses)) (a .config .«loop_edge_weight») in
+    sym (length-take-le _ _ (ends-front s _ (x .before .edges-built .ensures) _ (x .built-ends .ensures)))
 
 array-share-prefix-edges : tie.Need-array-share-prefix-edges
 array-share-prefix-edges c = search needs
 
-slice-aggregate-close-2 : tie.Need-slice-aggregate-close-2
-slice-aggregate-close-2 c =
-    let a = c .before .before .before .before .before .before .before .before .before .before .before .before .before .before .before .before .args in
-    sym (length-take-le _ _ (edges-front (scan (now (a .ids)) (now (a .poses)) (now (a .loops)) (now (a .loop-poses)) (a .config .«loop_edge_weight»)) _ (c .before .before .before .before .edges-built .ensures) _ (c .before .before .built-edges .ensures)))
+slice-aggregate-run-and-judge-2 : tie.Need-slice-aggregate-run-and-judge-2
+slice-aggregate-run-and-judge-2 c =
+    let x = c .before .before in
+    let a = x .before .before .before .before .before .before .before .before .before .before .before .before .before .before .args in
+    let s = scan (now (a .ids)) (now (a .poses)) (now (a .loops)) (now (a .loop-poses)) (a .config .«loop_edge_weight») in
+    sym (length-take-le _ _ (edges-front s _ (x .before .before .edges-built .ensures) _ (x .built-edges .ensures)))
 
-close-requires : tie.Need-close-requires
-close-requires c κs =
-    let a = c .before .before .before .before .before .before .before .before .before .before .before .before .before .before .before .before .before .before .before .before .args in
+run-and-judge-requires : tie.Need-run-and-judge-requires
+run-and-judge-requires c κs =
+    let x = c .before .before .before .before .before .before .before .before .before in
+    let a = x .before .before .before .before .before .before .before .before .before .before .before .args in
     original-long (now (a .ids)) (now (a .loops)) (length (now (a .poses))) (length (now (a .loop-poses))) (length (now (a .original)))
-    (sym (c .before .before .before .before .before .before .before .before .before .before .before .validate-scan .ensures) ∙ c .before .before .before .before .before .before .before .before .before .enum-told .given .1)
+    (sym (x .before .before .validate-scan .ensures) ∙ x .enum-told .given .1)
 
 same-length : tie.Need-same-length
 same-length c = search needs
@@ -73,11 +78,14 @@ same-length-4 c = search needs
 
 returns-2 : tie.Need-returns-2
 returns-2 c =
-    let a = c .before .before .before .before .before .before .before .before .before .before .before .before .before .before .before .before .before .before .before .before .before .before .before .before .before .before .before .before .before .args in
-    c .before .before .before .before .before .before .before .before .close .ensures
-    ∙ at-built _ _ _ (scan (now (a .ids)) (now (a .poses)) (now (a .loops)) (now (a .loop-poses)) (a .config .«loop_edge_weight»)) _ _ _ _ _ _ _
-    (c .before .before .before .before .before .before .before .before .before .before .before .before .before .before .before .before .before .edges-built .ensures) (c .before .before .before .before .before .before .before .before .before .before .before .before .before .before .before .before .built-ends .ensures) (c .before .before .before .before .before .before .before .before .before .before .before .before .before .before .before .built-edges .ensures)
-    ∙ sym (run-of-built _ _ _ _ _ _ (sym (c .before .before .before .before .before .before .before .before .before .before .before .before .before .before .before .before .before .before .before .before .validate-scan .ensures) ∙ c .before .before .before .before .before .before .before .before .before .before .before .before .before .before .before .before .before .before .enum-told .given .1))
+    let end = c .before .before .before .before .before .before .before .before in
+    let x = end .before .before .before .before .before .before .before in
+    let a = x .before .before .before .before .before .before .before .before .before .before .before .before .before .before .args in
+    let s = scan (now (a .ids)) (now (a .poses)) (now (a .loops)) (now (a .loop-poses)) (a .config .«loop_edge_weight») in
+    end .run-and-judge .ensures
+    ∙ at-built _ _ _ s _ _ _ _ _ _ _ (x .before .before .edges-built .ensures) (x .before .built-ends .ensures) (x .built-edges .ensures)
+    ∙ sym (run-if-fine _ _ _ _ _ _
+    (sym (x .before .before .before .before .before .validate-scan .ensures) ∙ x .before .before .before .enum-told .given .1))
 
 pub optimize-pose-graph-spec : {M : Type 1} → statement M
 optimize-pose-graph-spec =
@@ -93,10 +101,10 @@ optimize-pose-graph-spec =
     mul-e
     mul-g
     array-share-prefix-ends
-    slice-aggregate-close
+    slice-aggregate-run-and-judge
     array-share-prefix-edges
-    slice-aggregate-close-2
-    close-requires
+    slice-aggregate-run-and-judge-2
+    run-and-judge-requires
     same-length
     same-length-2
     same-length-3

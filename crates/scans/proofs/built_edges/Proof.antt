@@ -5,14 +5,14 @@ use native.Mathlib.Omega.{arith}
 use mathlib.Core.Path.{_≡_, refl, ap, _∙_}
 use borrow.Author.Needs.{needs}
 use Rattle.numbers.specs.Notation.{num}
-use Rattle.scans.specs.Scans.{edgeNumbers, edgeOf}
+use Rattle.scans.specs.Scans.{edgeNumbers, scanEdge}
 use Rattle.scans.proofs.Strings.{Filled, filled-none, filled-more, filled-end}
 use Rattle.scans.proofs.built_edges.Statement.{statement}
 use Rattle.scans.proofs.built_edges.Tie as tie
 
 abbrev Inv-loop : tie.InvT-loop
 Inv-loop keyframes poses loop-poses weight n chain most edges₀ k₀ edges k =
-    (k ≤ most) × (most ≤ 1025) × Filled (λ k. edgeNumbers (edgeOf (keyframes - 1) poses loop-poses weight k)) 8 8200 (num 0) edges k
+    (k ≤ most) × (most ≤ 1025) × Filled (λ k. edgeNumbers (scanEdge (keyframes - 1) poses loop-poses weight k)) 8 8200 (num 0) edges k
 
 abbrev μ-loop : tie.MeasureT-loop
 μ-loop keyframes poses loop-poses weight n chain most edges₀ k₀ edges k = most - k
@@ -23,17 +23,17 @@ index-before-requires c κs = search needs
 smaller-of-requires : tie.Need-smaller-of-requires Inv-loop μ-loop
 smaller-of-requires c κs = search needs
 
-blank-edges-requires : tie.Need-blank-edges-requires Inv-loop μ-loop
-blank-edges-requires c κs = search needs
+zero-edges-requires : tie.Need-zero-edges-requires Inv-loop μ-loop
+zero-edges-requires c κs = search needs
 
 loop-holds : tie.Need-loop-holds Inv-loop μ-loop
-loop-holds c = (omega arith, rw (c .before .smaller-of .ensures) (min-le-right _ _), filled-none _ _ (c .blank-edges .ensures))
+loop-holds c = (omega arith, rw (c .before .smaller-of .ensures) (min-le-right _ _), filled-none _ _ (c .zero-edges .ensures))
 
 slice-aggregate-put-edge : tie.Need-slice-aggregate-put-edge Inv-loop μ-loop
 slice-aggregate-put-edge c = search needs
 
-edge-of-requires : tie.Need-edge-of-requires Inv-loop μ-loop
-edge-of-requires c κs = search needs
+scan-edge-requires : tie.Need-scan-edge-requires Inv-loop μ-loop
+scan-edge-requires c κs = search needs
 
 put-edge-requires : tie.Need-put-edge-requires Inv-loop μ-loop
 put-edge-requires c κs = search needs
@@ -53,8 +53,8 @@ loop-again c =
       omega arith,
       l .loop .inv .1,
       filled-more _ 8 (λ _. refl) (l .loop .k) (l .loop .inv .2) (omega arith)
-          (ap edgeNumbers (e .edge-of .ensures
-          ∙ ap (λ (n : ℕ). edgeOf n (a .poses .now) (a .loop-poses .now) (a .weight) (l .loop .k)) (chain .index-before .ensures)))
+          (ap edgeNumbers (e .scan-edge .ensures
+          ∙ ap (λ (n : ℕ). scanEdge n (a .poses .now) (a .loop-poses .now) (a .weight) (l .loop .k)) (chain .index-before .ensures)))
           (c .before .put-edge .ensures) (c .before .put-edge .kept .0),
     )
 
@@ -71,10 +71,10 @@ built-edges-spec =
     μ-loop
     index-before-requires
     smaller-of-requires
-    blank-edges-requires
+    zero-edges-requires
     loop-holds
     slice-aggregate-put-edge
-    edge-of-requires
+    scan-edge-requires
     put-edge-requires
     add-k
     loop-less

@@ -4,14 +4,14 @@ use native.Mathlib.Nat.{min-le-right}
 use native.Mathlib.Omega.{arith}
 use mathlib.Core.Path.{_≡_, _∙_}
 use borrow.Author.Needs.{needs}
-use Rattle.scans.specs.Scans.{endsOf}
+use Rattle.scans.specs.Scans.{scanEnds}
 use Rattle.scans.proofs.Nodes.{ends-wide}
 use Rattle.scans.proofs.Strings.{Filled, filled-none, filled-pair, filled-end}
 use Rattle.scans.proofs.built_ends.Statement.{statement}
 use Rattle.scans.proofs.built_ends.Tie as tie
 
 abbrev Inv-loop : tie.InvT-loop
-Inv-loop ids loops n most ends₀ k₀ ends k = (k ≤ most) × (most ≤ 1025) × Filled (endsOf ids loops) 2 2050 0 ends k
+Inv-loop ids loops n most ends₀ k₀ ends k = (k ≤ most) × (most ≤ 1025) × Filled (scanEnds ids loops) 2 2050 0 ends k
 
 abbrev μ-loop : tie.MeasureT-loop
 μ-loop ids loops n most ends₀ k₀ ends k = most - k
@@ -19,14 +19,14 @@ abbrev μ-loop : tie.MeasureT-loop
 smaller-of-requires : tie.Need-smaller-of-requires Inv-loop μ-loop
 smaller-of-requires c κs = search needs
 
-blank-ends-requires : tie.Need-blank-ends-requires Inv-loop μ-loop
-blank-ends-requires c κs = search needs
+zero-ends-requires : tie.Need-zero-ends-requires Inv-loop μ-loop
+zero-ends-requires c κs = search needs
 
 loop-holds : tie.Need-loop-holds Inv-loop μ-loop
-loop-holds c = (omega arith, rw (c .before .smaller-of .ensures) (min-le-right _ _), filled-none _ _ (c .blank-ends .ensures))
+loop-holds c = (omega arith, rw (c .before .smaller-of .ensures) (min-le-right _ _), filled-none _ _ (c .zero-ends .ensures))
 
-ends-of-requires : tie.Need-ends-of-requires Inv-loop μ-loop
-ends-of-requires c κs = search needs
+scan-ends-requires : tie.Need-scan-ends-requires Inv-loop μ-loop
+scan-ends-requires c κs = search needs
 
 mul-at : tie.Need-mul-at Inv-loop μ-loop
 mul-at c = search needs
@@ -58,7 +58,7 @@ loop-again c =
     let a = l .before .before .before .before .before .args in (
       omega arith,
       l .loop .inv .1,
-      filled-pair (l .loop .k) (ends-wide (a .ids .now) (a .loops .now)) (l .loop .inv .2) (omega arith) (c .ends-of .ensures),
+      filled-pair (l .loop .k) (ends-wide (a .ids .now) (a .loops .now)) (l .loop .inv .2) (omega arith) (c .scan-ends .ensures),
     )
 
 returns : tie.Need-returns Inv-loop μ-loop
@@ -73,9 +73,9 @@ built-ends-spec =
     Inv-loop
     μ-loop
     smaller-of-requires
-    blank-ends-requires
+    zero-ends-requires
     loop-holds
-    ends-of-requires
+    scan-ends-requires
     mul-at
     mul-ends
     array-write-ends

@@ -1,8 +1,8 @@
--- `printable::measure` meets its contract: each step is the definition. Assumes nothing.
+-- `printable::measures_at` meets its contract: each step is the definition. Assumes nothing.
 use Rattle.printable.specs.Measures.{measuresOf}
 use borrow.Author.Needs.{needs}
-use Rattle.printable.proofs.measure.Statement.{statement}
-use Rattle.printable.proofs.measure.Tie as tie
+use Rattle.printable.proofs.measures_at.Statement.{statement}
+use Rattle.printable.proofs.measures_at.Tie as tie
 
 pose-graph-cost-requires : tie.Need-pose-graph-cost-requires
 pose-graph-cost-requires c κs = search needs
@@ -26,8 +26,8 @@ returns c =
       c .before .before .before .pose-graph-cost .ensures,
     )
 
-pub measure-spec : {M : Type 1} → statement M
-measure-spec =
+pub measures-at-spec : {M : Type 1} → statement M
+measures-at-spec =
     tie.close
     (tie.spec
     pose-graph-cost-requires

@@ -1,12 +1,12 @@
--- `pose_graph::close` meets its contract: the run's answer, or what is measured at its poses with the originals copied. Assumes nothing.
+-- `pose_graph::run_and_judge` meets its contract: the run's answer, or what is measured at its poses with the originals copied. Assumes nothing.
 use mathlib.Core.Path.{_∙_}
 use mathlib.Core.List.{[], _∷_}
 use borrow.Author.Needs.{needs}
 use denote.Ref.{now}
 use Rattle.numbers.proofs.Laying.{copied-whole}
 use Rattle.pose_graph.proofs.EdgesAlone.{result-alone, close-refused, close-joined}
-use Rattle.pose_graph.proofs.close.Statement.{statement}
-use Rattle.pose_graph.proofs.close.Tie as tie
+use Rattle.pose_graph.proofs.run_and_judge.Statement.{statement}
+use Rattle.pose_graph.proofs.run_and_judge.Tie as tie
 
 slice-aggregate-sparse-pose-graph-optimize : tie.Need-slice-aggregate-sparse-pose-graph-optimize
 slice-aggregate-sparse-pose-graph-optimize c = search needs
@@ -23,8 +23,8 @@ enum-known-answer-2 c = search needs
 copy64-requires : tie.Need-copy64-requires
 copy64-requires c κs = tt
 
-judged-requires : tie.Need-judged-requires
-judged-requires c κs = tt
+result-of-requires : tie.Need-result-of-requires
+result-of-requires c κs = tt
 
 same-length : tie.Need-same-length
 same-length c = search needs
@@ -54,15 +54,16 @@ same-length-7 c = search needs
 
 returns-2 : tie.Need-returns-2
 returns-2 c =
-    let run = c .before .before .before .before .before .before .before .before .before .before .before .before .before .before .before .sparse-pose-graph-optimize in
-    let z = c .before .before .before .before .before .before .before .before .before .before .before .before .before .before .before .before .before .before .before .before .before .before .before .before .before .before .before in
+    let x = c .before .before .before .before .before .before .before .before .before .before .before .before .before .before .before in
+    let run = x .sparse-pose-graph-optimize in
+    let z = x .before .before .before .before .before .before .before .before .before .before .before .before in
     let a = z .args in
     close-joined _ _ _ _ _ _ _ _ _ (run .ensures) _ _ _ (c .before .before .before .before .before .before .before .answer2 .given .1)
-    (c .judged .ensures ∙ result-alone _ (now (a .poses)) (now (a .ends)) (now (a .edges)) (0 ∷ []) _ _)
+    (c .result-of .ensures ∙ result-alone _ (now (a .poses)) (now (a .ends)) (now (a .edges)) (0 ∷ []) _ _)
     (c .before .before .before .before .copy64 .ensures ∙ copied-whole (now (a .poses)) (now (a .original)) (z .pre))
 
-pub close-spec : {M : Type 1} → statement M
-close-spec =
+pub run-and-judge-spec : {M : Type 1} → statement M
+run-and-judge-spec =
     tie.close
     (tie.spec
     slice-aggregate-sparse-pose-graph-optimize
@@ -70,7 +71,7 @@ close-spec =
     enum-known-answer
     enum-known-answer-2
     copy64-requires
-    judged-requires
+    result-of-requires
     same-length
     same-length-2
     same-length-3

@@ -4,8 +4,8 @@ use lib.Ieee.{ofBits}
 use Rattle.numbers.specs.Notation.{ratio}
 use Rattle.line.proofs.FloatLaws.{six-kept, six-more}
 use borrow.Author.Needs.{needs}
-use Rattle.line.proofs.six_of.Statement.{statement}
-use Rattle.line.proofs.six_of.Tie as tie
+use Rattle.line.proofs.rounded_six.Statement.{statement}
+use Rattle.line.proofs.rounded_six.Tie as tie
 
 whole-part-requires : tie.Need-whole-part-requires
 whole-part-requires c κs = search needs
@@ -21,5 +21,5 @@ returns-2 : tie.Need-returns-2
 unfolding ratio ofBits
 returns-2 c = (six-more _ _ (c .before .before .whole-part .ensures) (c .before .if1 .left), omega arith)
 
-pub six-of-spec : {M : Type 1} → statement M
-six-of-spec = tie.close (tie.spec whole-part-requires returns add-t5 returns-2)
+pub rounded-six-spec : {M : Type 1} → statement M
+rounded-six-spec = tie.close (tie.spec whole-part-requires returns add-t5 returns-2)

@@ -1,4 +1,4 @@
--- `scans::ends_of` meets its contract: an edge of the chain, and one of the loops, whose keyframes' numbers are small. Assumes nothing.
+-- `scans::scan_ends` meets its contract: an edge of the chain, and one of the loops, whose keyframes' numbers are small. Assumes nothing.
 use Prim.Native.Nat.{_≤_}
 use native.Mathlib.Omega.{arith}
 use mathlib.Core.Path.{refl}
@@ -6,10 +6,10 @@ use borrow.Author.Tests.{lt-ltb, le-ltb}
 use borrow.Author.Needs.{needs}
 use lib.ListN.{length}
 use Rattle.numbers.proofs.Choices.{taken, left}
-use Rattle.scans.specs.Scans.{nodeNumber, endsOf}
+use Rattle.scans.specs.Scans.{nodeNumber, scanEnds}
 use Rattle.scans.proofs.Nodes.{node-small}
-use Rattle.scans.proofs.ends_of.Statement.{statement}
-use Rattle.scans.proofs.ends_of.Tie as tie
+use Rattle.scans.proofs.scan_ends.Statement.{statement}
+use Rattle.scans.proofs.scan_ends.Tie as tie
 
 index-before-requires : tie.Need-index-before-requires
 index-before-requires c κs = search needs
@@ -24,7 +24,7 @@ cast-t11 : tie.Need-cast-t11
 cast-t11 c = search needs
 
 returns : tie.Need-returns
-unfolding endsOf
+unfolding scanEnds
 returns c = taken _ (lt-ltb _ _ (rw (c .before .index-before .ensures) at (c .if1 .taken))) refl
 
 candidate-node-requires : tie.Need-candidate-node-requires
@@ -46,15 +46,15 @@ node-number-requires-2 c κs =
     omega arith
 
 returns-2 : tie.Need-returns-2
-unfolding endsOf
+unfolding scanEnds
 returns-2 c =
     let q = c .before .before in
     let chain = q .before .before .before in
     left _ (le-ltb _ _ (rw (chain .index-before .ensures) at (q .before .before .if1 .left)))
     (rw (c .node-number2 .ensures, c .before .node-number .ensures, q .query-node .ensures, q .before .candidate-node .ensures, chain .index-before .ensures))
 
-pub ends-of-spec : {M : Type 1} → statement M
-ends-of-spec =
+pub scan-ends-spec : {M : Type 1} → statement M
+scan-ends-spec =
     tie.close
     (tie.spec
     index-before-requires
