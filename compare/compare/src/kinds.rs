@@ -9,15 +9,18 @@ use restated::limits::limits;
 use restated::pieces::islands;
 use restated::random::Random;
 use restated::samples::samples;
+use restated::scan_inputs::KINDS;
 use restated::wild::wild;
 
 use crate::assembly::check_assembly;
+use crate::closing::check_closing;
 use crate::decide;
 use crate::jobs::{check_cuts, check_damage, check_headers, check_job};
 use crate::layers::check_layer;
 use crate::lengths::check_lengths;
 use crate::runs::{check_forced, check_run};
 use crate::tally::{Checked, Tally};
+use crate::texts::{check_texts, CASES};
 
 pub struct Kind {
     pub name: &'static str,
@@ -57,6 +60,12 @@ pub fn kinds() -> Vec<Kind> {
     ));
     list.extend(island_kinds());
     list.extend(job_kinds());
+    list.extend(closing_kinds());
+    list.push(kind(
+        "texts",
+        |_| CASES,
+        |r, i, t| Some(check_texts(r, i, t)),
+    ));
     list
 }
 
@@ -98,6 +107,28 @@ fn job_kinds() -> Vec<Kind> {
         kind("job-cuts", |n| n, |r, _, t| Some(check_cuts(r, t))),
         kind("job-headers", |n| n, |r, _, t| Some(check_headers(r, t))),
         kind("job-damage", |n| 20 * n, |r, _, t| Some(check_damage(r, t))),
+    ]
+}
+
+/// One kind for each kind of scans: its number is the const.
+fn scanned<const NUMBER: usize>(r: &mut Random, index: usize, t: &mut Tally) -> Option<Checked> {
+    Some(check_closing(r, NUMBER, index, t))
+}
+
+/// The scans at the limits come last and are few.
+fn closing_kinds() -> Vec<Kind> {
+    let each: fn(usize) -> usize = |n| n;
+    vec![
+        kind(KINDS[0].0, each, scanned::<0>),
+        kind(KINDS[1].0, each, scanned::<1>),
+        kind(KINDS[2].0, each, scanned::<2>),
+        kind(KINDS[3].0, each, scanned::<3>),
+        kind(KINDS[4].0, each, scanned::<4>),
+        kind(KINDS[5].0, each, scanned::<5>),
+        kind(KINDS[6].0, each, scanned::<6>),
+        kind(KINDS[7].0, each, scanned::<7>),
+        kind(KINDS[8].0, each, scanned::<8>),
+        kind(KINDS[9].0, |n| n / 20 + 1, scanned::<9>),
     ]
 }
 

@@ -3,7 +3,9 @@
 use port::UNFIT;
 use restated::jobs::{write, Job};
 use restated::samples::two_poses;
+use restated::scan_inputs::along_a_line;
 
+use crate::closing;
 use crate::runs::inputs;
 use crate::tally::Checked;
 
@@ -83,6 +85,8 @@ pub fn check_lengths() -> Checked {
     calls.extend(assemblies());
     calls.extend(jobs_read());
     calls.extend(jobs_written());
+    calls.extend(scans());
+    calls.extend(texts());
     let bad = |c: &Call| c.status != UNFIT || !c.outputs.unchanged();
     let say = |c: Call| {
         format!(
@@ -313,4 +317,43 @@ fn jobs_written() -> Vec<Call> {
         }
     }
     calls
+}
+
+/// Good scans, with answer, costs or measures of another length, or gravity of neither 0 nor 3 numbers.
+fn scans() -> Vec<Call> {
+    let lengths = off([9, 2, 4]).into_iter().map(|wrong| (3, wrong));
+    let gravity = [1, 2, 4].map(|wrong| (wrong, [9, 2, 4]));
+    let scan = along_a_line(&[1, 2, 3], &[(1, 3)]);
+    let closed = |(gravity, [answer, costs, measures]): (usize, [usize; 3])| {
+        let f64s = scan.work64 + scan.original + scan.out + measures;
+        let outputs = Outputs::new(scan.work32 + costs, f64s, answer);
+        call("close_loops", outputs, |x| {
+            let (work32, costs) = x.f32s.split_at_mut(scan.work32);
+            let (work64, rest) = x.f64s.split_at_mut(scan.work64);
+            let (original, rest) = rest.split_at_mut(scan.original);
+            let (out, measures) = rest.split_at_mut(scan.out);
+            let lent = port::Lent {
+                work32,
+                work64,
+                out,
+                answer: &mut x.u32s,
+                costs,
+            };
+            let given = port::Scan {
+                gravity: &[1.0; 4][..gravity],
+                ..closing::inputs(&scan)
+            };
+            port::close_loops(given, lent, original, measures)
+        })
+    };
+    lengths.chain(gravity).map(closed).collect()
+}
+
+fn texts() -> Vec<Call> {
+    let text = |[length]: [usize; 1]| {
+        call("float_text", Outputs::of_jobs(0, 0, length), |x| {
+            port::float_text(0.5, &mut x.bytes)
+        })
+    };
+    off([16]).into_iter().map(text).collect()
 }

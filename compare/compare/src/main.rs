@@ -3,6 +3,8 @@
 
 mod assembly;
 mod buffers;
+mod closing;
+mod closings;
 mod decide;
 mod jobs;
 mod kinds;
@@ -10,6 +12,7 @@ mod layers;
 mod lengths;
 mod runs;
 mod tally;
+mod texts;
 
 use std::process::ExitCode;
 
@@ -29,7 +32,7 @@ struct Asked {
 const IN_FULL: usize = 10;
 
 /// From this N on a comparison of all kinds must have met every row, every stop and every answer
-/// about a job.
+/// about a job or a scan.
 const MEETS_ALL: usize = 400;
 
 fn number<T: std::str::FromStr>(name: &str, given: Option<&String>) -> Result<T, String> {
@@ -91,7 +94,10 @@ fn compare(asked: &Asked) -> ExitCode {
     }
     tally.print();
     let all = asked.kind.is_none() && asked.count >= MEETS_ALL;
-    let missing = if all { tally.missing() } else { Vec::new() };
+    let mut missing = tally.closings.missing_verdicts();
+    if all {
+        missing.extend(tally.missing());
+    }
     if !missing.is_empty() {
         println!("not met: {}", missing.join(", "));
     }

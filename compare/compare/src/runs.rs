@@ -1,4 +1,5 @@
 //! One whole run: the port's answer, output and work against what the original and document 01 ask.
+//! What holds of the run's numbers is asked here of any call that runs.
 
 use original_hooked::Forced;
 use restated::case::Case;
@@ -12,34 +13,46 @@ use crate::tally::{Checked, Tally};
 
 /// Everything lent to one call.
 #[derive(Clone)]
-struct Buffers {
-    work32: Vec<f32>,
-    work64: Vec<f64>,
-    out: Vec<f64>,
-    answer: Vec<u32>,
-    costs: Vec<f32>,
+pub struct Buffers {
+    pub work32: Vec<f32>,
+    pub work64: Vec<f64>,
+    pub out: Vec<f64>,
+    pub answer: Vec<u32>,
+    pub costs: Vec<f32>,
+}
+
+/// What a call that runs must answer, and how much of either work it leaves +0.
+pub struct Asked<'a> {
+    pub answer: &'a [u32],
+    pub costs: Option<[f32; 2]>,
+    pub poses: Option<&'a [f64]>,
+    pub cleared: (usize, usize),
 }
 
 impl Buffers {
-    fn stale(random: &mut Random, case: &Case) -> Self {
+    /// Stale numbers of such lengths: f32 work, f64 work, output.
+    pub fn stale(random: &mut Random, lengths: [usize; 3]) -> Self {
         Self {
-            work32: stale32(random, case.work32),
-            work64: stale64(random, case.work64),
-            out: stale64(random, case.out),
+            work32: stale32(random, lengths[0]),
+            work64: stale64(random, lengths[1]),
+            out: stale64(random, lengths[2]),
             answer: vec![0xDEAD_BEEF; 8],
             costs: vec![-123.5; 2],
         }
     }
 
-    fn call(&mut self, case: &Case) -> u32 {
-        let inputs = inputs(case);
-        let lent = port::Lent {
+    pub fn lent(&mut self) -> port::Lent<'_> {
+        port::Lent {
             work32: &mut self.work32,
             work64: &mut self.work64,
             out: &mut self.out,
             answer: &mut self.answer,
             costs: &mut self.costs,
-        };
+        }
+    }
+
+    pub fn call(&mut self, case: &Case) -> u32 {
+        let (inputs, lent) = (inputs(case), self.lent());
         match case.gravity {
             None => port::optimize(inputs, lent),
             Some(gravity) => port::optimize_with_gravity(gravity, inputs, lent),
@@ -64,12 +77,16 @@ pub fn check_run(random: &mut Random, case: &Case, tally: &mut Tally) -> Checked
     let e = expected(case);
     tally.count(&e.answer, e.list.as_ref());
     let mut lines = e.doubts.clone();
-    let before = Buffers::stale(random, case);
+    let before = Buffers::stale(random, [case.work32, case.work64, case.out]);
     let mut after = before.clone();
     let status = after.call(case);
-    lines.extend(answer_lines(&e, status, &before, &after));
-    lines.extend(pose_lines(&e, &before, &after, tally));
-    lines.extend(work_lines(&e, case, &before, &after));
+    let asked = Asked {
+        answer: &e.answer,
+        costs: e.costs,
+        poses: e.poses.as_deref(),
+        cleared: e.cleared(case),
+    };
+    lines.extend(run_lines(&asked, status, &before, &after, tally));
     lines.extend(e.list.iter().flat_map(check_list));
     Checked {
         lines,
@@ -77,23 +94,37 @@ pub fn check_run(random: &mut Random, case: &Case, tally: &mut Tally) -> Checked
     }
 }
 
-fn answer_lines(e: &Expected, status: u32, before: &Buffers, after: &Buffers) -> Vec<String> {
+/// The differences of one call that runs.
+pub fn run_lines(
+    asked: &Asked,
+    status: u32,
+    before: &Buffers,
+    after: &Buffers,
+    tally: &mut Tally,
+) -> Vec<String> {
+    let mut lines = answer_lines(asked, status, before, after);
+    lines.extend(pose_lines(asked, before, after, tally));
+    lines.extend(work_lines(asked, before, after));
+    lines
+}
+
+fn answer_lines(asked: &Asked, status: u32, before: &Buffers, after: &Buffers) -> Vec<String> {
     let mut lines = Vec::new();
-    if status != e.answer[0] || after.answer != e.answer {
+    if status != asked.answer[0] || after.answer != asked.answer {
         lines.push(format!(
             "answer: port {status} {:?}, expected {:?}",
-            after.answer, e.answer
+            after.answer, asked.answer
         ));
     }
-    let costs = e.costs.map_or(before.costs.clone(), |costs| costs.to_vec());
+    let costs = asked.costs.map_or(before.costs.clone(), |c| c.to_vec());
     if !all_same32(&after.costs, &costs) {
         lines.push(format!("costs: port {:?}, expected {costs:?}", after.costs));
     }
     lines
 }
 
-fn pose_lines(e: &Expected, before: &Buffers, after: &Buffers, tally: &mut Tally) -> Vec<String> {
-    match &e.poses {
+fn pose_lines(asked: &Asked, before: &Buffers, after: &Buffers, tally: &mut Tally) -> Vec<String> {
+    match asked.poses {
         None if untouched64(&before.out, &after.out) => Vec::new(),
         None => vec![format!(
             "refused, but the output was written: {:?}",
@@ -112,11 +143,8 @@ fn pose_lines(e: &Expected, before: &Buffers, after: &Buffers, tally: &mut Tally
 }
 
 /// Untouched by a refusal before the run; else the needed work is +0 and the rest untouched.
-fn work_lines(e: &Expected, case: &Case, before: &Buffers, after: &Buffers) -> Vec<String> {
-    let (need32, need64) = match e.begun() {
-        true => (case.need32(), case.need64()),
-        false => (0, 0),
-    };
+fn work_lines(asked: &Asked, before: &Buffers, after: &Buffers) -> Vec<String> {
+    let (need32, need64) = asked.cleared;
     let clear = cleared32(&after.work32[..need32]) && cleared64(&after.work64[..need64]);
     let kept = untouched32(&before.work32[need32..], &after.work32[need32..])
         && untouched64(&before.work64[need64..], &after.work64[need64..]);

@@ -1,10 +1,13 @@
-//! What was met over all cases: refusals, stops, events, answers about jobs, and the largest
-//! difference of pose numbers; and what should have been met and was not.
+//! What was met over all cases: refusals, stops, events, answers about jobs, scans and texts, and the
+//! largest difference of pose numbers; and what should have been met and was not.
 
 use std::collections::BTreeMap;
 
 use restated::decide::{Event, List};
 use restated::table::{IN_THE_RUN, ORDER};
+
+use crate::closings::Closings;
+use crate::texts::Texts;
 
 /// One case's differences; no lines means none.
 pub struct Checked {
@@ -28,6 +31,8 @@ impl Checked {
 #[derive(Default)]
 pub struct Tally {
     pub differing: usize,
+    pub closings: Closings,
+    pub texts: Texts,
     answers: Answers,
     hooked: Answers,
     assemblies: Answers,
@@ -43,14 +48,14 @@ pub struct Tally {
 
 /// How often each number came, 0 for no refusal.
 #[derive(Default)]
-struct Answers(BTreeMap<u32, usize>);
+pub struct Answers(BTreeMap<u32, usize>);
 
 impl Answers {
-    fn add(&mut self, number: u32) {
+    pub fn add(&mut self, number: u32) {
         *self.0.entry(number).or_default() += 1;
     }
 
-    fn of(&self, number: u32) -> usize {
+    pub fn of(&self, number: u32) -> usize {
         self.0.get(&number).copied().unwrap_or(0)
     }
 
@@ -64,11 +69,24 @@ impl Answers {
     }
 
     fn line(&self, rows: &[u32]) -> String {
+        format!("{}, refused by row {}", self.of(0), self.counts(rows))
+    }
+
+    fn counts(&self, rows: &[u32]) -> String {
         let counts: Vec<_> = rows
             .iter()
             .map(|row| format!("{row}:{}", self.of(*row)))
             .collect();
-        format!("{}, refused by row {}", self.of(0), counts.join(" "))
+        counts.join(" ")
+    }
+
+    /// Those that came.
+    pub fn met(&self) -> String {
+        let rows: Vec<u32> = self.0.keys().copied().collect();
+        match rows.is_empty() {
+            true => "none".into(),
+            false => self.counts(&rows),
+        }
     }
 }
 
@@ -143,7 +161,7 @@ impl Tally {
     }
 
     /// What a comparison should meet and this one did not: rows, stops, 21 late in a run, 26 in
-    /// assembly, and all that is said of jobs.
+    /// assembly, and all that is said of jobs and scans.
     pub fn missing(&self) -> Vec<String> {
         let rows = run_rows().into_iter();
         let rows = rows.filter(|row| self.answers.of(*row) == 0);
@@ -159,6 +177,7 @@ impl Tally {
             .chain(others.map(|(name, _)| format!("row {name}")))
             .chain(self.jobs_read.missing("read", &READER_ROWS))
             .chain(self.jobs_written.missing("written", &WRITER_ROWS))
+            .chain(self.closings.missing())
             .collect()
     }
 
@@ -179,6 +198,8 @@ impl Tally {
         println!("assemblies done {}", self.assemblies.line(&assembly_rows()));
         println!("jobs read {}", self.jobs_read.line(&READER_ROWS));
         println!("jobs written {}", self.jobs_written.line(&WRITER_ROWS));
+        self.closings.print();
+        self.texts.print();
         println!("stops: {}", named(&STOPS[1..], &self.stops[1..]));
         println!("events: {}", named(&EVENTS, &self.events));
         let [accepted, rejected, failed] = self.sums;

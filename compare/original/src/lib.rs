@@ -1,5 +1,8 @@
-//! sparse_pgo.rs and pose_conversion.rs, compiled unchanged over the stand-ins, with a door to their private items.
+//! sparse_pgo.rs, pose_graph.rs and pose_conversion.rs, compiled unchanged over the stand-ins, with doors to their
+//! private items.
 
 include!(concat!(env!("OUT_DIR"), "/modules.rs"));
 
-pub use sparse_pgo::access::*;
+pub use loop_closure::closing::*;
+pub use loop_closure::sparse_pgo::access::*;
+pub use mapping::map::{Frame, Keyframe, Map};

@@ -1,4 +1,5 @@
-//! The exported functions as C sees them, in the order of DESIGN.md, section 5; then those of job files.
+//! The exported functions as C sees them, in the order of DESIGN.md, section 5; then those of job files, of scans
+//! and of number texts.
 
 extern "C" {
     pub fn pgo_optimize(
@@ -179,4 +180,38 @@ extern "C" {
         answer: *mut u32,
         answer_len: usize,
     ) -> u32;
+
+    pub fn pgo_close_loops(
+        ids: *const u32,
+        ids_len: usize,
+        poses: *const f64,
+        poses_len: usize,
+        loops: *const u32,
+        loops_len: usize,
+        loop_poses: *const f64,
+        loop_poses_len: usize,
+        weight: f32,
+        gravity: *const f64,
+        gravity_len: usize,
+        limit: u32,
+        cost_tolerance: f32,
+        gradient_tolerance: f32,
+        damping: f32,
+        work32: *mut f32,
+        work32_len: usize,
+        work64: *mut f64,
+        work64_len: usize,
+        original: *mut f64,
+        original_len: usize,
+        out: *mut f64,
+        out_len: usize,
+        answer: *mut u32,
+        answer_len: usize,
+        costs: *mut f32,
+        costs_len: usize,
+        measures: *mut f64,
+        measures_len: usize,
+    ) -> u32;
+
+    pub fn pgo_float_text(x: f64, out: *mut u8, out_len: usize) -> u32;
 }

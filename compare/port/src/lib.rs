@@ -284,3 +284,62 @@ pub fn write_job(job: Job, out: &mut [u8], answer: &mut [u32]) -> u32 {
         )
     }
 }
+
+/// What the closing of loops reads; gravity is empty or three numbers.
+#[derive(Copy, Clone)]
+pub struct Scan<'a> {
+    pub ids: &'a [u32],
+    pub poses: &'a [f64],
+    pub loops: &'a [u32],
+    pub loop_poses: &'a [f64],
+    pub weight: f32,
+    pub gravity: &'a [f64],
+    pub limit: u32,
+    pub cost_tolerance: f32,
+    pub gradient_tolerance: f32,
+    pub damping: f32,
+}
+
+/// Writes what a run writes, the original poses and the four measures.
+pub fn close_loops(s: Scan, l: Lent, original: &mut [f64], measures: &mut [f64]) -> u32 {
+    // SAFETY: every pointer comes with its slice's own length.
+    unsafe {
+        ffi::pgo_close_loops(
+            s.ids.as_ptr(),
+            s.ids.len(),
+            s.poses.as_ptr(),
+            s.poses.len(),
+            s.loops.as_ptr(),
+            s.loops.len(),
+            s.loop_poses.as_ptr(),
+            s.loop_poses.len(),
+            s.weight,
+            s.gravity.as_ptr(),
+            s.gravity.len(),
+            s.limit,
+            s.cost_tolerance,
+            s.gradient_tolerance,
+            s.damping,
+            l.work32.as_mut_ptr(),
+            l.work32.len(),
+            l.work64.as_mut_ptr(),
+            l.work64.len(),
+            original.as_mut_ptr(),
+            original.len(),
+            l.out.as_mut_ptr(),
+            l.out.len(),
+            l.answer.as_mut_ptr(),
+            l.answer.len(),
+            l.costs.as_mut_ptr(),
+            l.costs.len(),
+            measures.as_mut_ptr(),
+            measures.len(),
+        )
+    }
+}
+
+/// Gives back how many bytes of the start of `out` are the number's text.
+pub fn float_text(x: f64, out: &mut [u8]) -> u32 {
+    // SAFETY: the pointer comes with its slice's own length.
+    unsafe { ffi::pgo_float_text(x, out.as_mut_ptr(), out.len()) }
+}

@@ -29,6 +29,14 @@ impl Expected {
     pub fn begun(&self) -> bool {
         !ORDER.contains(&self.answer[0])
     }
+
+    /// How much of either work is +0 afterwards: all that a run needs, where it began.
+    pub fn cleared(&self, case: &Case) -> (usize, usize) {
+        match self.begun() {
+            true => (case.need32(), case.need64()),
+            false => (0, 0),
+        }
+    }
 }
 
 pub fn expected(case: &Case) -> Expected {
@@ -102,7 +110,7 @@ pub fn flat(poses: &[kornia_3d::pose::Pose3d]) -> Vec<f64> {
 }
 
 /// The row that the original's text speaks of, of those it has before a run.
-fn row_of(text: &str) -> Option<u32> {
+pub(crate) fn row_of(text: &str) -> Option<u32> {
     const TEXTS: [(&str, u32); 14] = [
         ("gravity vector", 1),
         ("empty poses", 4),

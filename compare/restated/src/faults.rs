@@ -27,8 +27,8 @@ pub fn faulty(random: &mut Random, index: usize) -> Case {
     case
 }
 
-const NOT_FINITE32: [f32; 3] = [f32::NAN, f32::INFINITY, f32::NEG_INFINITY];
-const NOT_FINITE64: [f64; 3] = [f64::NAN, f64::INFINITY, f64::NEG_INFINITY];
+pub(crate) const NOT_FINITE32: [f32; 3] = [f32::NAN, f32::INFINITY, f32::NEG_INFINITY];
+pub(crate) const NOT_FINITE64: [f64; 3] = [f64::NAN, f64::INFINITY, f64::NEG_INFINITY];
 
 const IDENTITY: [f64; 12] = [1.0, 0.0, 0.0, 0.0, 1.0, 0.0, 0.0, 0.0, 1.0, 0.0, 0.0, 0.0];
 /// An edge's numbers: no turn, one ahead, weight 1.

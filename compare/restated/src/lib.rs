@@ -1,9 +1,10 @@
 //! What the port adds to the Rust, stated once more in Rust from documents 01 and 02: the refusal
-//! table, the decisions, the counts and the stop reasons, the job file; and the random inputs that
-//! the programs of this workspace share.
+//! table, the decisions, the counts and the stop reasons, the job file, what is built of a scan and
+//! whether it may be printed; and the random inputs that the programs of this workspace share.
 
 pub mod assembly;
 pub mod case;
+pub mod closing;
 pub mod decide;
 pub mod expect;
 pub mod faults;
@@ -22,7 +23,12 @@ pub mod places;
 pub mod random;
 pub mod run;
 pub mod samples;
+pub mod scan;
+pub mod scan_faults;
+pub mod scan_inputs;
 pub mod table;
+pub mod texts;
+pub mod verdict;
 pub mod wild;
 
 /// Equal bits, or both NaN.

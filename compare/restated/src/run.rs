@@ -40,7 +40,7 @@ pub fn norm(values: &[f32]) -> f64 {
 }
 
 /// The first edge at which a prefix of the edges fails; a longer prefix then fails too.
-fn first_bad(edges: usize, fails: impl Fn(usize) -> bool) -> u32 {
+pub(crate) fn first_bad(edges: usize, fails: impl Fn(usize) -> bool) -> u32 {
     let (mut low, mut high) = (0, edges);
     while low + 1 < high {
         let middle = (low + high) / 2;

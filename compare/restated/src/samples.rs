@@ -15,12 +15,16 @@ pub struct Said {
     pub stop: Option<u32>,
 }
 
+/// A pose at (x,0,0), with no turn.
+pub fn ahead(x: f64) -> [f64; 12] {
+    [1.0, 0.0, 0.0, 0.0, 1.0, 0.0, 0.0, 0.0, 1.0, x, 0.0, 0.0]
+}
+
 /// Pose 0 fixed at identity, pose 1 at (1,0,0), no turn anywhere, one edge from 0 to 1.
 pub fn two_poses(measured: f32, weight: f32) -> Case {
-    let pose = |x: f64| [1.0, 0.0, 0.0, 0.0, 1.0, 0.0, 0.0, 0.0, 1.0, x, 0.0, 0.0];
     let mut case = Case {
         gravity: None,
-        poses: [pose(0.0), pose(1.0)].concat(),
+        poses: [ahead(0.0), ahead(1.0)].concat(),
         ends: vec![0, 1],
         edges: vec![0.0, 0.0, 0.0, 1.0, measured, 0.0, 0.0, weight],
         fixed: vec![0],

@@ -3,3 +3,4 @@ pub mod Telling
 pub mod Building
 pub mod Islands
 pub mod Jobs
+pub mod Closings

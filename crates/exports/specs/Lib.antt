@@ -1,3 +1,4 @@
 pub mod Layers
 pub mod Exported
 pub mod Jobs
+pub mod Closings

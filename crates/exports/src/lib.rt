@@ -18,6 +18,8 @@ ghost use Rattle.decisions.specs.Machine.{stateOf};
 ghost use Rattle.sparse_pgo.specs.Parts.{answerOf};
 ghost use Rattle.sparse_pgo.specs.Optimize.{optimized};
 ghost use Rattle.job.specs.Format.{space, jobOf};
+ghost use Rattle.scans.specs.Scans.{scan};
+ghost use Rattle.exports.specs.Closings.{scanLists, gravityOf, closedTold, closeOut, textOut};
 ghost use Rattle.exports.specs.Jobs.{readEight, readOut, writeOut};
 ghost use Rattle.exports.specs.Layers.{at, matrixFrom, transformFrom, quatNumbers, transformNumbers, three};
 ghost use Rattle.exports.specs.Layers.{quaternionOut, productOut, inverseOut, logOut, expOut, retractOut, retractGravityOut, residualOut, solveOut};
@@ -39,6 +41,9 @@ use job::Written;
 use numbers::Refusal;
 use numbers::Verdict;
 use pose_conversion::Restored;
+use pose_graph::Closed;
+use pose_graph::PgoConfig;
+use printable::Measures;
 use residual::Residual;
 use rotations::Mat3F32;
 use rotations::Moved;
@@ -414,35 +419,6 @@ fn put_answer(answer: &mut [u32], costs: &mut [f32], a: Answer) -> u32
 
 // ---- the runs
 
-fn run_on(
-    m: Manifold,
-    poses: &[f64],
-    ends: &[u32],
-    edges: &[f32],
-    fixed: &[u32],
-    set: Settings,
-    work32: &mut [f32],
-    work64: &mut [f64],
-    out: &mut [f64],
-) -> Answer
-    ensures { λ r. ⌜ record { answer = r; work32 = now (work32 .exit); work64 = now (work64 .exit); out = now (out .exit) } ≡ optimized (lent m (now (poses .entry)) (now (ends .entry)) (now (edges .entry)) (now (fixed .entry)) set record { work32 = length (now (work32 .entry)); work64 = length (now (work64 .entry)); out = length (now (out .entry)) }) (now (work32 .entry)) (now (work64 .entry)) (now (out .entry)) ⌝ }
-{
-    match m {
-        Manifold::Se3 => sparse_pgo::optimize(poses, ends, edges, fixed, set, work32, work64, out),
-        Manifold::Gravity(g) => sparse_pgo::optimize_with_gravity(
-            g,
-            poses,
-            ends,
-            edges,
-            fixed,
-            set,
-            work32,
-            work64,
-            out,
-        ),
-    }
-}
-
 fn run(
     m: Manifold,
     poses: &[f64],
@@ -461,7 +437,17 @@ fn run(
     if !((answer.len() == 8) & (costs.len() == 2)) {
         return UNFIT;
     }
-    let a = run_on(m, poses, ends, edges, fixed, set, work32, work64, out);
+    let a = sparse_pgo::sparse_pose_graph_optimize(
+        m,
+        poses,
+        ends,
+        edges,
+        fixed,
+        set,
+        work32,
+        work64,
+        out,
+    );
     put_answer(answer, costs, a)
 }
 
@@ -908,4 +894,121 @@ pub extern "C" fn pgo_write_job(
             r.number
         }
     }
+}
+
+// ---- scans
+
+fn put_measures(to: &mut [f64], m: Measures)
+    requires { ⌜ length (now to) ≡ 4 ⌝ }
+    ensures { λ _. ⌜ now (to .exit) ≡ m .«initial_cost» ∷ m .«final_cost» ∷ m .«new_loop_residual_before» ∷ m .«new_loop_residual_after» ∷ [] ⌝ }
+{
+    give64(
+        to,
+        &[
+            m.initial_cost,
+            m.final_cost,
+            m.new_loop_residual_before,
+            m.new_loop_residual_after,
+        ],
+    );
+}
+
+fn put_closed(answer: &mut [u32], costs: &mut [f32], measures: &mut [f64], c: Closed) -> u32
+    requires { ⌜ (length (now answer) ≡ 9) × (length (now costs) ≡ 2) × (length (now measures) ≡ 4) ⌝ }
+    ensures { λ r. ⌜ (r, now (answer .exit), now (costs .exit), now (measures .exit)) ≡ closedTold (now (costs .entry)) (now (measures .entry)) c ⌝ }
+{
+    match c {
+        Closed::Ran(x) => {
+            put_joined(&mut answer[..8], costs, x.run);
+            answer[8] = flag_of(x.usable);
+            put_measures(measures, x.measures);
+            0
+        }
+        Closed::Refused(r) => {
+            put_refused(&mut answer[..8], r);
+            answer[8] = 0;
+            r.number
+        }
+    }
+}
+
+fn gravity_from(g: &[f64]) -> Manifold
+    ensures { λ r. ⌜ r ≡ gravityOf (now (g .entry)) ⌝ }
+{
+    if g.len() == 0 {
+        return Manifold::Se3;
+    }
+    Manifold::Gravity(vec_from(g))
+}
+
+// A scan's loops closed: gravity is no number or three. answer: the run's eight, then usable; measures: first cost, last cost, the last edge's residual before
+// and after.
+#[no_mangle]
+pub extern "C" fn pgo_close_loops(
+    ids: &[u32],
+    poses: &[f64],
+    loops: &[u32],
+    loop_poses: &[f64],
+    weight: f32,
+    gravity: &[f64],
+    limit: u32,
+    cost_tolerance: f32,
+    gradient_tolerance: f32,
+    damping: f32,
+    work32: &mut [f32],
+    work64: &mut [f64],
+    original: &mut [f64],
+    out: &mut [f64],
+    answer: &mut [u32],
+    costs: &mut [f32],
+    measures: &mut [f64],
+) -> u32
+    ensures { λ r. ⌜ (r, scanLists (now (work32 .exit)) (now (work64 .exit)) (now (original .exit)) (now (out .exit)) (now (answer .exit)) (now (costs .exit)) (now (measures .exit)))
+        ≡ closeOut (length (now (gravity .entry)))
+        (record { «loop_edge_weight» = weight; settings = settings limit «cost_tolerance» «gradient_tolerance» damping; manifold = gravityOf (now (gravity .entry)) })
+        (scan (now (ids .entry)) (now (poses .entry)) (now (loops .entry)) (now («loop_poses» .entry)) weight)
+        (scanLists (now (work32 .entry)) (now (work64 .entry)) (now (original .entry)) (now (out .entry)) (now (answer .entry)) (now (costs .entry)) (now (measures .entry))) ⌝ }
+{
+    let g = gravity.len();
+    if !(((g == 0) | (g == 3))
+        & ((answer.len() == 9) & ((costs.len() == 2) & (measures.len() == 4)))) {
+        return UNFIT;
+    }
+    let config = PgoConfig {
+        loop_edge_weight: weight,
+        settings: Settings {
+            limit,
+            cost_tolerance,
+            gradient_tolerance,
+            damping,
+        },
+        manifold: gravity_from(gravity),
+    };
+    let c = pose_graph::optimize_pose_graph(
+        config,
+        ids,
+        poses,
+        loops,
+        loop_poses,
+        work32,
+        work64,
+        original,
+        out,
+    );
+    put_closed(answer, costs, measures, c)
+}
+
+// A float with six significant digits, at the start of out; how many bytes.
+#[no_mangle]
+pub extern "C" fn pgo_float_text(x: f64, out: &mut [u8]) -> u32
+    ensures { λ r. ⌜ (r, now (out .exit)) ≡ textOut x (now (out .entry)) ⌝ }
+{
+    if out.len() != 16 {
+        return UNFIT;
+    }
+    let l = line::with_float(line::empty(), x);
+    let text = l.bytes;
+    let n = l.used;
+    bytes::copy(&text[..n], out);
+    n as u32
 }

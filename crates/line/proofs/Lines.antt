@@ -77,8 +77,14 @@ held-text l t (b ∷ u) h q =
     let n = length-append t (b ∷ []) in
     rw (sym (append-assoc t (b ∷ []) u)) (held-text (withByte l b) (t ++ (b ∷ [])) u (held-byte l t b h (omega arith)) (omega arith))
 
+held-whole : (t : List ℕ) → length t ≤ 256 → Held (lineOf t) t
+held-whole t q = held-text empty [] t (record { is = refl; many = refl; room = length-replicate {A = ℕ} 256 0 }) (omega arith)
+
 pub shown-whole : (t : List ℕ) → length t ≤ 256 → shown (lineOf t) ≡ t
-shown-whole t q = held-text empty [] t (record { is = refl; many = refl; room = length-replicate {A = ℕ} 256 0 }) (omega arith) .is
+shown-whole t q = held-whole t q .is
+
+pub used-whole : (t : List ℕ) → length t ≤ 256 → lineOf t .used ≡ length t
+used-whole t q = held-whole t q .many
 
 -- ---- the kit's digits
 

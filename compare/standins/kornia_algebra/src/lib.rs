@@ -1,4 +1,4 @@
-//! Stands in for kornia_algebra: the names that sparse_pgo.rs and pose_conversion.rs use,
+//! Stands in for kornia_algebra: the names that sparse_pgo.rs, pose_graph.rs and pose_conversion.rs use,
 //! with document 01's rotation arithmetic behind them (orders of operation C1 to C13 of DESIGN.md).
 
 mod quaternion;

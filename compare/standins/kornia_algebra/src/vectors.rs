@@ -52,6 +52,11 @@ impl Vec3F64 {
         self.dot(self).sqrt()
     }
 
+    /// Each number divided by the length.
+    pub fn normalize(self) -> Self {
+        self / self.length()
+    }
+
     /// Each number narrowed to f32: nearest, ties to even, overflow to infinity.
     pub fn as_vec3a(self) -> Vec3AF32 {
         Vec3AF32::new(self.x as f32, self.y as f32, self.z as f32)

@@ -1,15 +1,12 @@
-//! Stands in for thiserror: derive(Error) for an enum whose variants each hold one value
-//! and carry an #[error("..")] text that names it as {0}.
+//! Stands in for thiserror: derive(Error) for an enum whose variants each carry an #[error("..")] text
+//! and hold nothing, or one value that the text names as {0}.
 
 use proc_macro::{Delimiter, TokenStream, TokenTree};
 
 #[proc_macro_derive(Error, attributes(error))]
 pub fn derive_error(input: TokenStream) -> TokenStream {
     let (name, body) = enum_of(input);
-    let arms: String = variants(body)
-        .iter()
-        .map(|(variant, text)| format!("Self::{variant}(value) => write!(f, {text}, value),"))
-        .collect();
+    let arms: String = variants(body).iter().map(arm).collect();
     let code = format!(
         "impl std::fmt::Display for {name} {{
             fn fmt(&self, f: &mut std::fmt::Formatter<'_>) -> std::fmt::Result {{
@@ -40,23 +37,43 @@ fn braced(token: TokenTree) -> Option<TokenStream> {
     }
 }
 
-/// Each variant with its text, a string literal as written.
-fn variants(body: TokenStream) -> Vec<(String, String)> {
-    let mut found = Vec::new();
+/// A variant with its text, a string literal as written.
+struct Variant {
+    name: String,
+    text: String,
+    holds_value: bool,
+}
+
+fn variants(body: TokenStream) -> Vec<Variant> {
+    let mut found: Vec<Variant> = Vec::new();
     let mut text = None;
     for token in body {
         match token {
             TokenTree::Group(group) if group.delimiter() == Delimiter::Bracket => {
                 text = literal(group.stream());
             }
-            TokenTree::Ident(variant) => {
-                let text = text.take().expect("each variant has an error text");
-                found.push((variant.to_string(), text));
+            TokenTree::Group(_) => {
+                let holder = found.last_mut().expect("a value stands behind its variant");
+                holder.holds_value = true;
             }
+            TokenTree::Ident(name) => found.push(Variant {
+                name: name.to_string(),
+                text: text.take().expect("each variant has an error text"),
+                holds_value: false,
+            }),
             _ => {}
         }
     }
     found
+}
+
+/// The match arm that writes a variant's text.
+fn arm(variant: &Variant) -> String {
+    let Variant { name, text, .. } = variant;
+    match variant.holds_value {
+        true => format!("Self::{name}(value) => write!(f, {text}, value),"),
+        false => format!("Self::{name} => write!(f, {text}),"),
+    }
 }
 
 /// The literal of error("..").

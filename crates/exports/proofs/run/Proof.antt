@@ -15,8 +15,8 @@ returns : tie.Need-returns
 unfolding exported
 returns c = turned-away _ refl (c .if1 .taken) refl
 
-run-on-requires : tie.Need-run-on-requires
-run-on-requires c κs = tt
+sparse-pose-graph-optimize-requires : tie.Need-sparse-pose-graph-optimize-requires
+sparse-pose-graph-optimize-requires c κs = tt
 
 put-answer-requires : tie.Need-put-answer-requires
 put-answer-requires c κs =
@@ -25,13 +25,13 @@ put-answer-requires c κs =
     (eqb-true _ _ (and-first (eqb (length (now (a .answer))) 8) _ h), eqb-true _ _ (and-second (eqb (length (now (a .answer))) 8) _ h))
 
 same-length : tie.Need-same-length
-same-length c = c .before .before .before .before .before .before .before .before .before .before .before .before .before .run-on .kept .1 .1 .1 .1 .1 .1 .0
+same-length c = c .before .before .before .before .before .before .before .before .before .before .before .before .before .sparse-pose-graph-optimize .kept .1 .1 .1 .1 .1 .1 .0
 
 same-length-2 : tie.Need-same-length-2
-same-length-2 c = c .before .before .before .before .before .before .before .before .before .before .before .before .before .run-on .kept .1 .1 .1 .1 .1 .1 .1 .0
+same-length-2 c = c .before .before .before .before .before .before .before .before .before .before .before .before .before .sparse-pose-graph-optimize .kept .1 .1 .1 .1 .1 .1 .1 .0
 
 same-length-3 : tie.Need-same-length-3
-same-length-3 c = c .before .before .before .before .before .before .before .before .before .before .before .before .before .run-on .kept .1 .1 .1 .1 .1 .1 .1 .1 .0
+same-length-3 c = c .before .before .before .before .before .before .before .before .before .before .before .before .before .sparse-pose-graph-optimize .kept .1 .1 .1 .1 .1 .1 .1 .1 .0
 
 same-length-4 : tie.Need-same-length-4
 same-length-4 c = c .before .before .before .before .put-answer .kept .0
@@ -45,14 +45,14 @@ returns-2 c =
     let a = c .before .before .before .before .before .before .before .before .before .before .before .before .before .before .before .before .before .before .before .before .before .before .before .before .before .before .before .args in
     let l = lists (now (a .work32)) (now (a .work64)) (now (a .out)) (now (a .answer)) (now (a .costs)) in
     let i = lent (a .m) (now (a .poses)) (now (a .ends)) (now (a .edges)) (now (a .fixed)) (a .set) (roomOf l) in
-    passed _ refl (c .before .before .before .before .before .before .before .before .before .before .before .before .before .before .before .before .before .if1 .left) (ran-told i l (c .before .before .before .before .before .before .before .before .before .before .before .before .before .run-on .ensures) (c .before .before .before .before .put-answer .ensures))
+    passed _ refl (c .before .before .before .before .before .before .before .before .before .before .before .before .before .before .before .before .before .if1 .left) (ran-told i l (c .before .before .before .before .before .before .before .before .before .before .before .before .before .sparse-pose-graph-optimize .ensures) (c .before .before .before .before .put-answer .ensures))
 
 pub run-spec : {M : Type 1} → statement M
 run-spec =
     tie.close
     (tie.spec
     returns
-    run-on-requires
+    sparse-pose-graph-optimize-requires
     put-answer-requires
     same-length
     same-length-2
