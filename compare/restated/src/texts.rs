@@ -84,6 +84,14 @@ fn without_digits(x: f64) -> Option<&'static str> {
     }
 }
 
+/// The one right text of a number.
+pub fn exact(x: f64) -> String {
+    match without_digits(x) {
+        Some(text) => text.to_string(),
+        None => Decimal::rounded(x, 6).text(),
+    }
+}
+
 /// The distance of two numbers of six digits in units of the smaller one's last digit; none where they are far apart.
 fn units_apart(a: Decimal, b: Decimal) -> Option<u64> {
     match a.exponent - b.exponent {
@@ -286,11 +294,7 @@ mod tests {
     fn rust_writes_every_number_well() {
         for index in 0..20_000 {
             let x = number(&mut Random::of_case(3, 2, index), index as usize);
-            let text = match without_digits(x) {
-                Some(text) => text.to_string(),
-                None => Decimal::rounded(x, 6).text(),
-            };
-            let near = judged(x, &text).expect("it is its own text");
+            let near = judged(x, &exact(x)).expect("it is its own text");
             assert!(!near.last_digit_differs && near.error <= 0.500001, "{x:?}");
         }
     }

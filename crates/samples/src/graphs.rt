@@ -27,7 +27,12 @@ pub fn step(cos: f64, sin: f64, shift: Vec3) -> Pose {
     }
 }
 
-fn after(s: Pose, p: Pose) -> Pose {
+// A shift along x alone.
+pub fn ahead(x: f64) -> Pose {
+    step(1.0, 0.0, vec(x, 0.0, 0.0))
+}
+
+pub fn after(s: Pose, p: Pose) -> Pose {
     let m = s.rotation;
     Pose {
         rotation: rotations::mat_product(m, p.rotation),
@@ -36,7 +41,7 @@ fn after(s: Pose, p: Pose) -> Pose {
 }
 
 // Of the numbers of pose after pose the one at place i, which is in p.
-fn number_at(p: Pose, i: usize) -> f64 {
+pub fn number_at(p: Pose, i: usize) -> f64 {
     let twelve = graph::numbers_of(p);
     twelve[i % 12]
 }
@@ -49,7 +54,7 @@ fn next(s: Pose, p: Pose, i: usize) -> Pose {
 // The identity, then step by step.
 fn walk(s: Pose) -> [f64; 792] {
     let mut poses = [0.0f64; 792];
-    let mut p = step(1.0, 0.0, vec(0.0, 0.0, 0.0));
+    let mut p = ahead(0.0);
     let mut i = 0usize;
     while i < 792 {
         poses[i] = number_at(p, i);

@@ -1,11 +1,15 @@
-// Document 01's sample joins, then those of document 02's Wish 6, run and printed, one line each.
+// Document 01's sample joins, then those of document 02's Wish 6, then scans of its Wish 2 with whether they may be printed; run and printed, one line each.
 mod graphs;
+mod keyframes;
 mod say;
 
 ghost use Prim.Native.Nat.{_≤_};
 use graph::Manifold;
 use graph::Settings;
 use graphs::Graph;
+use keyframes::Scan;
+use pose_graph::Closed;
+use pose_graph::PgoConfig;
 use sparse_pgo::Answer;
 
 fn settings(limit: u32, gradient_tolerance: f32) -> Settings {
@@ -73,7 +77,7 @@ fn run(g: Graph, n: usize, m: usize, fixed: &[u32]) -> Answer
 // Poses one apart, from the identity on; no turn anywhere; all edges measured (x,0,0).
 fn in_a_line(x: f32, weight: f32) -> Graph {
     graphs::chain(
-        graphs::step(1.0, 0.0, graphs::vec(1.0, 0.0, 0.0)),
+        graphs::ahead(1.0),
         [0.0, 0.0, 0.0, 1.0, x, 0.0, 0.0, weight],
     )
 }
@@ -232,6 +236,73 @@ fn loose_despite_bridge() {
     );
 }
 
+// ---- scans
+
+// Loops of weight 0.5; the last keyframe has the id that is given, and three loops name 40. The work is for three free poses with six degrees of freedom, and
+// for four poses.
+fn close(manifold: Manifold, settings: Settings, id: u32, s: Scan) -> Closed {
+    let config = PgoConfig {
+        loop_edge_weight: 0.5,
+        settings,
+        manifold,
+    };
+    let poses = s.poses;
+    let loop_poses = s.loop_poses;
+    let mut work32 = [0.0f32; 378];
+    let mut work64 = [0.0f64; 96];
+    let mut original = [0.0f64; 48];
+    let mut out = [0.0f64; 48];
+    pose_graph::optimize_pose_graph(
+        config,
+        &[10, 20, 30, id],
+        &poses,
+        &[10, 30, 20, 40, 10, 40, 10, 40],
+        &loop_poses,
+        &mut work32,
+        &mut work64,
+        &mut original,
+        &mut out,
+    )
+}
+
+// Views 1.25 apart in a line; the loops measured that it is 1, but for the last, which measured three times `last`.
+fn line_scan(settings: Settings, id: u32, last: f64) -> Closed {
+    let s = keyframes::drifted(graphs::ahead(1.25), graphs::ahead(1.0), graphs::ahead(last));
+    close(Manifold::Se3, settings, id, s)
+}
+
+fn line_scans() {
+    say::closed(
+        b"a scan of 4 keyframes, 4 loops that agree",
+        line_scan(usual(), 40, 1.0),
+    );
+    say::closed(b"the same, limit 1", line_scan(settings(1, 0.0), 40, 1.0));
+    say::closed(
+        b"the same, the last loop measured the drift",
+        line_scan(usual(), 40, 1.25),
+    );
+    say::closed(
+        b"the same, no keyframe 40, which loop 1 names",
+        line_scan(usual(), 50, 1.0),
+    );
+}
+
+// A true step is a turn by 30 degrees about z and a shift by 1; the poses come from a turn by 29 degrees with a rise of 0.01.
+fn turning_scan() {
+    let step = graphs::step(
+        0.8746197071393957,
+        0.48480962024633706,
+        graphs::vec(1.0, 0.0, 0.01),
+    );
+    let truth = graphs::step(0.8660254037844386, 0.5, graphs::vec(1.0, 0.0, 0.0));
+    let s = keyframes::drifted(step, truth, truth);
+    let down = Manifold::Gravity(graphs::vec(0.0, 0.0, -9.81));
+    say::closed(
+        b"a scan of 4 keyframes with turns, and gravity",
+        close(down, usual(), 40, s),
+    );
+}
+
 fn main() {
     measured();
     limits();
@@ -242,4 +313,6 @@ fn main() {
     rings();
     islands();
     loose_despite_bridge();
+    line_scans();
+    turning_scan();
 }

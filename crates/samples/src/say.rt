@@ -1,8 +1,10 @@
-// A run's answer as one line for a person.
+// A run's answer, or a scan's, as one line for a person.
 use decisions::Why;
 use libc::STDOUT_FILENO;
 use line::Line;
 use numbers::Refusal;
+use pose_graph::Closed;
+use pose_graph::PgoResult;
 use sparse_pgo::Answer;
 use sparse_pgo::Joined;
 
@@ -54,11 +56,12 @@ fn with_events(l: Line, j: Joined) -> Line {
     line::with_text(l, b")")
 }
 
-fn with_convergence(l: Line, converged: bool) -> Line {
-    if converged {
-        return line::with_text(l, b", converged yes");
+fn with_flag(l: Line, text: &[u8], yes: bool) -> Line {
+    let l = line::with_text(l, text);
+    if yes {
+        return line::with_text(l, b"yes");
     }
-    line::with_text(l, b", converged no")
+    line::with_text(l, b"no")
 }
 
 fn with_reason(l: Line, w: Why) -> Line {
@@ -75,7 +78,7 @@ fn with_reason(l: Line, w: Why) -> Line {
 fn with_joined(l: Line, j: Joined) -> Line {
     let why = j.why;
     let l = with_events(with_costs(l, j), j);
-    with_reason(with_convergence(l, j.converged), why)
+    with_reason(with_flag(l, b", converged ", j.converged), why)
 }
 
 fn with_refused(l: Line, r: Refusal) -> Line {
@@ -90,7 +93,42 @@ fn with_answer(l: Line, a: Answer) -> Line {
     }
 }
 
+// What was measured before and after.
+fn with_change(l: Line, text: &[u8], before: f64, after: f64) -> Line {
+    let l = line::with_float(line::with_text(l, text), before);
+    line::with_float(line::with_text(l, b" to "), after)
+}
+
+// The measured cost is half the sum over all edges.
+fn with_result(l: Line, r: PgoResult) -> Line {
+    let run = r.run;
+    let m = r.measures;
+    let l = with_joined(l, run);
+    let l = with_change(l, b", measured cost ", m.initial_cost, m.final_cost);
+    let before = m.new_loop_residual_before;
+    let l = with_change(l, b", last edge ", before, m.new_loop_residual_after);
+    with_flag(l, b", usable ", r.usable)
+}
+
+fn with_closed(l: Line, c: Closed) -> Line {
+    match c {
+        Closed::Ran(r) => with_result(l, r),
+        Closed::Refused(r) => with_refused(l, r),
+    }
+}
+
+fn named(sample: &[u8]) -> Line {
+    line::with_text(line::with_text(line::empty(), sample), b": ")
+}
+
+fn say(l: Line) {
+    line::say(STDOUT_FILENO, line::with_text(l, b"\n"));
+}
+
 pub fn answer(sample: &[u8], a: Answer) {
-    let l = line::with_text(line::with_text(line::empty(), sample), b": ");
-    line::say(STDOUT_FILENO, line::with_text(with_answer(l, a), b"\n"));
+    say(with_answer(named(sample), a));
+}
+
+pub fn closed(sample: &[u8], c: Closed) {
+    say(with_closed(named(sample), c));
 }

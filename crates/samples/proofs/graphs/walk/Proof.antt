@@ -12,11 +12,8 @@ Inv-loop s poses₀ p₀ i₀ poses p i = length poses ≡ 792
 abbrev μ-loop : tie.MeasureT-loop
 μ-loop s poses₀ p₀ i₀ poses p i = 792 - i
 
-vec-requires : tie.Need-vec-requires Inv-loop μ-loop
-vec-requires c κs = search needs
-
-step-requires : tie.Need-step-requires Inv-loop μ-loop
-step-requires c κs = search needs
+ahead-requires : tie.Need-ahead-requires Inv-loop μ-loop
+ahead-requires c κs = search needs
 
 loop-holds : tie.Need-loop-holds Inv-loop μ-loop
 loop-holds c = search needs
@@ -51,8 +48,7 @@ walk-spec =
     (tie.spec
     Inv-loop
     μ-loop
-    vec-requires
-    step-requires
+    ahead-requires
     loop-holds
     number-at-requires
     mul-poses
