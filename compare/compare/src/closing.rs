@@ -8,7 +8,7 @@ use restated::scan_inputs::KINDS;
 use restated::{all_same32, all_same64};
 
 use crate::buffers::{stale64, untouched64};
-use crate::runs::{run_lines, Asked, Buffers};
+use crate::runs::{run_lines, Buffers, MustAnswer};
 use crate::tally::{Checked, Tally};
 
 /// Everything lent to one call.
@@ -69,7 +69,7 @@ pub fn check_closing(
     let before = Lent::stale(random, &scan);
     let mut after = before.clone();
     let status = after.call(&scan);
-    let asked = Asked {
+    let asked = MustAnswer {
         answer: &e.answer,
         costs: e.costs,
         poses: e.poses.as_deref(),

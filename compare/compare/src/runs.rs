@@ -22,7 +22,7 @@ pub struct Buffers {
 }
 
 /// What a call that runs must answer, and how much of either work it leaves +0.
-pub struct Asked<'a> {
+pub struct MustAnswer<'a> {
     pub answer: &'a [u32],
     pub costs: Option<[f32; 2]>,
     pub poses: Option<&'a [f64]>,
@@ -80,7 +80,7 @@ pub fn check_run(random: &mut Random, case: &Case, tally: &mut Tally) -> Checked
     let before = Buffers::stale(random, [case.work32, case.work64, case.out]);
     let mut after = before.clone();
     let status = after.call(case);
-    let asked = Asked {
+    let asked = MustAnswer {
         answer: &e.answer,
         costs: e.costs,
         poses: e.poses.as_deref(),
@@ -96,7 +96,7 @@ pub fn check_run(random: &mut Random, case: &Case, tally: &mut Tally) -> Checked
 
 /// The differences of one call that runs.
 pub fn run_lines(
-    asked: &Asked,
+    asked: &MustAnswer,
     status: u32,
     before: &Buffers,
     after: &Buffers,
@@ -108,7 +108,7 @@ pub fn run_lines(
     lines
 }
 
-fn answer_lines(asked: &Asked, status: u32, before: &Buffers, after: &Buffers) -> Vec<String> {
+fn answer_lines(asked: &MustAnswer, status: u32, before: &Buffers, after: &Buffers) -> Vec<String> {
     let mut lines = Vec::new();
     if status != asked.answer[0] || after.answer != asked.answer {
         lines.push(format!(
@@ -123,7 +123,12 @@ fn answer_lines(asked: &Asked, status: u32, before: &Buffers, after: &Buffers) -
     lines
 }
 
-fn pose_lines(asked: &Asked, before: &Buffers, after: &Buffers, tally: &mut Tally) -> Vec<String> {
+fn pose_lines(
+    asked: &MustAnswer,
+    before: &Buffers,
+    after: &Buffers,
+    tally: &mut Tally,
+) -> Vec<String> {
     match asked.poses {
         None if untouched64(&before.out, &after.out) => Vec::new(),
         None => vec![format!(
@@ -143,7 +148,7 @@ fn pose_lines(asked: &Asked, before: &Buffers, after: &Buffers, tally: &mut Tall
 }
 
 /// Untouched by a refusal before the run; else the needed work is +0 and the rest untouched.
-fn work_lines(asked: &Asked, before: &Buffers, after: &Buffers) -> Vec<String> {
+fn work_lines(asked: &MustAnswer, before: &Buffers, after: &Buffers) -> Vec<String> {
     let (need32, need64) = asked.cleared;
     let clear = cleared32(&after.work32[..need32]) && cleared64(&after.work64[..need64]);
     let kept = untouched32(&before.work32[need32..], &after.work32[need32..])
