@@ -8,7 +8,7 @@ use Rattle.numbers.specs.Walks.{table}
 use Rattle.printable.specs.declared.Printable.{Printable}
 use Rattle.printable.specs.declared.Printable.the-variants as printable
 use Rattle.line.specs.Text.{ascii, decimal}
-use Rattle.line.specs.FloatText.{raised, lowered, repeated, scaledOf, wholePart, sixOf, digitsText, pointed, plainText, powerText, sixText}
+use Rattle.line.specs.FloatText.{raised, lowered, repeated, scaledOf, wholePart, roundedSix, digitsText, pointed, plainText, powerText, sixText}
 use Rattle.line.specs.FloatText.{sizeText, floatText}
 use Rattle.join_job.specs.Joining.{printableText, secondText}
 use Rattle.join_job.specs.declared.Report.the-variants as report
@@ -30,6 +30,6 @@ pub second-lines :
     ∷ ascii "may be printed: no, the cost did not fall (before 1.00000, after 2.00000)\n"
     ∷ ascii "may be printed: no, the last edge got worse (before 0.250000, after 0.500000)\n"
     ∷ []
-unfolding printableText floatText sizeText sixText powerText plainText pointed digitsText sixOf wholePart scaledOf repeated lowered raised
+unfolding printableText floatText sizeText sixText powerText plainText pointed digitsText roundedSix wholePart scaledOf repeated lowered raised
     if-then table decimal ratio toBits toUnsigned neg eq lt add mul div
 second-lines = refl
