@@ -3,6 +3,7 @@
 //! long or is not seen, 2 bad arguments.
 
 mod checks;
+mod closing;
 mod digits;
 mod graphs;
 mod inputs;
@@ -51,6 +52,7 @@ assembly: the graph's checks, Jacobians, gradient and Hessian, once, at the firs
 whole run: checks to output. The original solves by the stand-in of faer, which is document 01's dense rule and no
   sparse solver: the ratio compares two programs under the same rules, and says nothing about the real faer.
 solves: one damped solve of the first system, by the stand-in's dense rule on one side and the port's solve on the other.
+scan: a ring of 50 views that drifted and 7 loops, from keyframes to verdict; pose_graph.rs as it stands, likewise.
 The original makes its lists on the heap; the port writes into lent work, allocated before the clock starts.
 assembly by number of edges: the same with 125 to 1,000 edges between 65 poses, all these lines in turn; milliseconds a
   call, and microseconds an edge, which stay about the same where the time grows linearly. What does not grow with the
@@ -83,7 +85,7 @@ fn bench(rounds: usize) -> bool {
             println!();
         }
     }
-    for part in [sizes::bench, checks::bench] {
+    for part in [closing::bench, sizes::bench, checks::bench] {
         agreed &= part(rounds);
         println!();
     }

@@ -105,37 +105,60 @@ fn chain_doubt(case: &Case) -> Option<String> {
     Some(format!("chain edge {at} measures something else"))
 }
 
-/// The scan as the original holds it, with the first so many loops.
-fn optimized(scan: &Scan, loops: usize) -> Result<PgoResult, PgoError> {
-    let keyframe = |(id, numbers): (&u32, &[f64])| Keyframe {
-        frame: Frame {
-            idx: *id as usize,
-            pose_world_to_cam: pose(numbers),
-        },
-    };
-    let verified = |(pair, numbers): (&[u32], &[f64])| VerifiedLoopEdge {
-        candidate_kf_idx: pair[0] as usize,
-        query_kf_idx: pair[1] as usize,
-        candidate_to_query: pose(numbers),
-    };
-    let keyframes = scan.ids.iter().zip(scan.poses.chunks_exact(12));
-    let pairs = scan.loops.chunks_exact(2);
-    let pairs = pairs.zip(scan.loop_poses.chunks_exact(12)).take(loops);
-    let config = PgoConfig {
+/// A scan as the original holds it.
+pub struct Held {
+    map: Map,
+    loops: Vec<VerifiedLoopEdge>,
+    config: PgoConfig,
+    inertial: Option<InertialPgoContext>,
+}
+
+impl Held {
+    /// With the first so many loops.
+    pub fn new(scan: &Scan, loops: usize) -> Self {
+        let keyframe = |(id, numbers): (&u32, &[f64])| Keyframe {
+            frame: Frame {
+                idx: *id as usize,
+                pose_world_to_cam: pose(numbers),
+            },
+        };
+        let verified = |(pair, numbers): (&[u32], &[f64])| VerifiedLoopEdge {
+            candidate_kf_idx: pair[0] as usize,
+            query_kf_idx: pair[1] as usize,
+            candidate_to_query: pose(numbers),
+        };
+        let keyframes = scan.ids.iter().zip(scan.poses.chunks_exact(12));
+        let pairs = scan.loops.chunks_exact(2);
+        let pairs = pairs.zip(scan.loop_poses.chunks_exact(12)).take(loops);
+        Self {
+            map: Map {
+                keyframes: keyframes.map(keyframe).collect(),
+            },
+            loops: pairs.map(verified).collect(),
+            config: config(scan),
+            inertial: scan.gravity.map(|gravity| InertialPgoContext {
+                gravity_world: vector(&gravity),
+            }),
+        }
+    }
+
+    pub fn closed(&self) -> Result<PgoResult, PgoError> {
+        optimize_pose_graph(&self.map, &self.loops, &self.config, self.inertial)
+    }
+}
+
+fn config(scan: &Scan) -> PgoConfig {
+    PgoConfig {
         loop_edge_weight: scan.weight,
         max_iterations: scan.limit as usize,
         cost_tolerance: scan.cost_tolerance,
         gradient_tolerance: scan.gradient_tolerance,
         initial_lambda: scan.damping,
-    };
-    let inertial = scan.gravity.map(|gravity| InertialPgoContext {
-        gravity_world: vector(&gravity),
-    });
-    let map = Map {
-        keyframes: keyframes.map(keyframe).collect(),
-    };
-    let loops: Vec<_> = pairs.map(verified).collect();
-    optimize_pose_graph(&map, &loops, &config, inertial)
+    }
+}
+
+fn optimized(scan: &Scan, loops: usize) -> Result<PgoResult, PgoError> {
+    Held::new(scan, loops).closed()
 }
 
 /// The original beside the answer; a line where they differ in a way that no test knows.

@@ -108,6 +108,19 @@ pub fn along_a_line(ids: &[u32], loops: &[(u32, u32)]) -> Scan {
     scan
 }
 
+/// So many views round a ring that drifted, and loops across its join that know better: first view to last, and so on.
+pub fn ring_scan(random: &mut Random, views: usize, loops: usize) -> Scan {
+    let walk = walk(random, views, 0.002);
+    let mut scan = bare(random, &walk.reckoned);
+    scan.gravity = None;
+    for from in 0..loops {
+        let to = views - 1 - from;
+        scan.push_loop(from, to, between(&walk.truth, from, to));
+    }
+    scan.fit();
+    scan
+}
+
 impl Scan {
     /// Lends exactly the work and the outputs that the scan needs.
     pub fn fit(&mut self) {
