@@ -21,8 +21,10 @@ use Rattle.rotations.specs.declared.Pose.{Pose}
 use Rattle.graph.specs.Graph.{Links}
 use Rattle.graph.specs.declared.Edge.{Edge}
 use Rattle.graph.specs.declared.Manifold.{Manifold}
-use Rattle.solve.specs.Work.{need, matrixOf, gradientOf}
-use Rattle.assembly.specs.Assembly.{addTo, cleared, assembledEnds, assembledFrom, assembledOf}
+use Rattle.profile.specs.Layout.{need, hessianOf}
+use Rattle.solve.specs.Work.{gradientOf}
+use Rattle.additions.specs.Additions.{addTo}
+use Rattle.assembly.specs.Assembly.{cleared, assembledEnds, assembledFrom, assembledOf}
 use Rattle.assembly.specs.declared.Assembled.{Assembled}
 use Rattle.assembly.specs.declared.Assembled.the-variants as assembled
 use Rattle.assembly.proofs.Laws.{cleared-zero}
@@ -114,10 +116,10 @@ module _ (n : ℕ) where
 
 -- ---- as the solve reads them
 module _ (n : ℕ) (y : List Float) (s : Finite n y) where
-  pub matrix-finite : (i j : ℕ) → j ≤ i → i < n → finite (matrixOf y n i j) ≡ true
+  pub matrix-finite : (i j : ℕ) → j ≤ i → i < n → finite (hessianOf y n i j) ≡ true
   matrix-finite i j h l = s .all-finite (j * n + i) (entry-in n i j h l)
 
-  pub matrix-fits : (i j : ℕ) → j ≤ i → i < n → T (fits binary32 (matrixOf y n i j))
+  pub matrix-fits : (i j : ℕ) → j ≤ i → i < n → T (fits binary32 (hessianOf y n i j))
   matrix-fits i j h l = s .all-fit (j * n + i) (entry-in n i j h l)
 
   pub gradient-finite : (i : ℕ) → i < n → finite (gradientOf y n i) ≡ true

@@ -17,14 +17,14 @@ use Rattle.pose_conversion.specs.Conversions.{checkedTransform}
 use Rattle.pose_conversion.specs.declared.Converted.{Converted}
 use Rattle.graph.specs.Graph.{isBlock}
 use Rattle.graph.specs.Lent.{dofOf, poseAt, slotIn, none}
-use Rattle.graph.proofs.Answers.{dof-most}
+use Rattle.graph.proofs.Degrees.{dof-most}
 use Rattle.graph.specs.declared.Edge.{Edge}
 use Rattle.graph.specs.declared.Manifold.{Manifold}
 use Rattle.graph.specs.declared.Manifold.the-variants.{Se3, Gravity}
 use Rattle.graph.specs.declared.Slot.{Slot}
 use Rattle.graph.specs.declared.Slot.the-variants.{Block, Fixed}
-use Rattle.residual.specs.Stowed.{stowedIn, Stows, stowing, knownPoses, withBases, baseIn, Based}
-use Rattle.residual.proofs.Stowing.{stowing-stows, stowing-length, with-bases, with-bases-length, known-small, base-based}
+use Rattle.costs.specs.Stowed.{stowedIn, Stows, stowing, knownPoses, withBases, baseIn, Based}
+use Rattle.costs.proofs.Stowing.{stowing-stows, stowing-length, with-bases, with-bases-length, known-small, base-based}
 use Rattle.probes.specs.Probes.{probesOf}
 use Rattle.probes.specs.Stances.{probingOf, stanceOf, probeBy, probesBy}
 use Rattle.probes.specs.declared.BothProbes.{BothProbes}
@@ -33,11 +33,14 @@ use Rattle.probes.specs.declared.Stance.{Stance}
 use Rattle.probes.proofs.Shared.{probe-shared, shifts-share}
 use Rattle.residual.specs.EdgeParts.{linkedOf}
 use Rattle.residual.specs.declared.Linked.{Linked}
-use Rattle.assembly.specs.Assembly.{lowerTriangle, oneOf, bothOf}
+use Rattle.additions.specs.Additions.{lowerTriangle}
+use Rattle.assembly.specs.Assembly.{oneOf, bothOf}
 use Rattle.assembly.specs.FromParts.{oneIn, bothIn}
-use Rattle.assembly.specs.Known.{spot, stowedProbes, Axis, Probed, Posed, Ready, FreePose}
+use Rattle.jacobians.specs.Cells.{spot, stowedProbes}
+use Rattle.assembly.specs.Known.{Axis, Probed, Posed, Ready, FreePose}
 use Rattle.residual.specs.declared.EdgeEndpoint.{EdgeEndpoint}
-use Rattle.assembly.proofs.Parting.{endPose, one-linked, both-linked}
+use Rattle.jacobians.proofs.Parting.{endPose}
+use Rattle.assembly.proofs.Parting.{one-linked, both-linked}
 use Rattle.assembly.proofs.Edges.{slot-fits}
 
 -- ---- filling

@@ -22,8 +22,10 @@ use Rattle.graph.specs.Graph.{Links}
 use Rattle.graph.specs.declared.Edge.{Edge}
 use Rattle.graph.specs.declared.Manifold.{Manifold}
 use Rattle.solve.specs.Rule.{nothing}
-use Rattle.solve.specs.Work.{need, Place, kept, scratch, stepAt, placeOf, after, workAfter}
-use Rattle.assembly.specs.Assembly.{addTo, cleared, assembledEnds, assembledFrom, assembledOf}
+use Rattle.profile.specs.Layout.{need}
+use Rattle.solve.specs.Work.{Place, kept, scratch, stepAt, placeOf, after, workAfter}
+use Rattle.additions.specs.Additions.{addTo}
+use Rattle.assembly.specs.Assembly.{cleared, assembledEnds, assembledFrom, assembledOf}
 use Rattle.assembly.proofs.Laws.{cleared-length, cleared-zero, cleared-rest}
 use Rattle.numbers.proofs.Invariants.{Good, Over}
 use Rattle.assembly.proofs.Walked.{Fits, edges-over}

@@ -1,6 +1,4 @@
 pub mod Laws
-pub mod Going
-pub mod SideBySide
 pub mod Parting
 pub mod Edges
 pub mod Knowing
@@ -8,7 +6,4 @@ pub mod Walked
 pub mod LeftBehind
 pub mod AllFinite
 pub mod SameEdges
-pub mod Products
-pub mod Additions
-pub mod DiagonalBlocks
 pub mod WholeBlocks

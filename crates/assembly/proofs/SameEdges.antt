@@ -11,7 +11,8 @@ use Rattle.graph.specs.Graph.{Links, isBlock}
 use Rattle.graph.specs.declared.Edge.{Edge}
 use Rattle.graph.specs.declared.Manifold.{Manifold}
 use Rattle.graph.specs.declared.Slot.{Slot}
-use Rattle.assembly.specs.Assembly.{lowerTriangle, edgeOf, addAt, edgeStep, cleared, assembledEnds, assembledOf}
+use Rattle.additions.specs.Additions.{lowerTriangle}
+use Rattle.assembly.specs.Assembly.{edgeOf, addAt, edgeStep, cleared, assembledEnds, assembledOf}
 
 -- the same edges between the same poses; pose numbers may differ
 pub record Same (l l' : Links Edge) (pose pose' : ℕ → Pose) : Type 0 where

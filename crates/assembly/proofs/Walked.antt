@@ -1,21 +1,19 @@
 -- What holds through every addition to a place of the system holds of the work that an assembly leaves; so does what relates the work of two assemblies
 -- that keep different entries. Assumes nothing.
-use mathlib.Core.Path.{_≡_, refl, sym, ap, _∙_}
+use mathlib.Core.Path.{_≡_, refl, sym, ap}
 use mathlib.Core.Bool.{Bool, true, false}
-use mathlib.Core.List.{List, _++_}
-use Prim.Native.Nat.{ℕ, zero, suc, _+_, _*_, _<_, _≤_}
+use mathlib.Core.List.{List}
+use Prim.Native.Nat.{ℕ, _+_, _*_, _<_, _≤_}
 use native.Mathlib.Nat.{add-assoc}
 use native.Mathlib.Omega.{arith}
 use lib.Dec.{ltb, leb}
-use lib.ListN.{take, drop, take-append-drop}
-use lib.Seq.{getD-drop, take-set-le, drop-set-add}
-use lib.Ieee.{Float, nan}
+use lib.Ieee.{Float}
 use borrow.Author.Tests.{leb-true, ltb-true, ltb-false}
 use Rattle.numbers.specs.Notation.{if-then}
-use Rattle.numbers.specs.Walks.{Ended, done, stopped, turn, next, each, well, only}
+use Rattle.numbers.specs.Walks.{each, well, only}
 use Rattle.numbers.specs.declared.Went.{Went}
 use Rattle.numbers.specs.declared.Went.the-variants.{Well, Bad}
-use Rattle.rotations.specs.declared.Twist.{Twist}
+use Rattle.exp_log.specs.declared.Twist.{Twist}
 use Rattle.rotations.specs.declared.Pose.{Pose}
 use Rattle.graph.specs.Graph.{Links, isActive}
 use Rattle.graph.specs.Lent.{dofOf, lentLinks}
@@ -26,66 +24,16 @@ use Rattle.graph.specs.declared.Slot.the-variants.{Block, Fixed}
 use Rattle.residual.specs.Residuals.{sixOf}
 use Rattle.residual.specs.declared.Residual.{Residual}
 use Rattle.residual.specs.declared.Residual.the-variants.{Six, Failed}
-use Rattle.assembly.specs.Jacobians.{withSix}
-use Rattle.assembly.specs.Assembly.{dotWith, dotOf, addTo, gradientOf, lent, withJacobian, cleared, lowerTriangle, entryOf, rowOf, blockOf}
-use Rattle.assembly.specs.Assembly.{endOf, crossOf, endsOf, oneOf, bothOf, edgeOf, addAt, endsBy, assembledEnds}
+use Rattle.jacobians.specs.Jacobians.{withSix}
+use Rattle.additions.specs.Additions.{dotWith, dotOf, addTo, gradientAdded, onPart, lowerTriangle, entryAdded, rowAdded, blockAdded}
+use Rattle.assembly.specs.Assembly.{withJacobian, cleared, oneOf, bothOf, edgeOf, addAt, endsBy, assembledEnds}
+use Rattle.additions.specs.Additions.{endAdded, crossAdded, endsAdded}
 use Rattle.residual.specs.declared.EdgeEndpoint.{EdgeEndpoint}
 use Rattle.residual.specs.declared.EdgeEndpoint.the-variants.{A, B}
 use Rattle.numbers.proofs.Invariants.{Together, Abreast, each-abreast, each-together, then-together, only-together, Good, Over, Twin, Lost, beside}
-use Rattle.numbers.proofs.Invariants.{alone, each-over, each-good}
+use Rattle.numbers.proofs.Invariants.{alone, each-good}
+use Rattle.additions.proofs.Parts.{part-each}
 use Rattle.assembly.proofs.Edges.{slot-fits}
-
--- ---- additions to a lent part are additions to the whole
-
-abbrev part : ℕ → Ended (List Float) → Ended (List Float)
-part at (done w) = done (drop at w)
-part at (stopped k why w) = stopped k why (drop at w)
-
-module _ (at : ℕ) (v : ℕ → Float) where
-  abbrev onPart : ℕ → List Float → Went × List Float
-  onPart c w = addTo w c (v c)
-
-  abbrev onWhole : ℕ → List Float → Went × List Float
-  onWhole c w = addTo w (at + c) (v c)
-
-  add-part : (c : ℕ) (w : List Float) → onPart c (drop at w) ≡ (onWhole c w .0, drop at (onWhole c w .1))
-  unfolding addTo
-  add-part c w = rw (getD-drop at w c nan, drop-set-add)
-
-  turn-part : (n : ℕ) (x : Went × List Float) → turn n (x .0, drop at (x .1)) ≡ part at (turn n x)
-  turn-part n (Well, w) = refl
-  turn-part n (Bad why, w) = refl
-
-  each-part : (n : ℕ) (w : List Float) → each onPart n (drop at w) ≡ part at (each onWhole n w)
-  unfolding each
-  each-part zero w = refl
-  each-part (suc n) w = rw (each-part n w) (go (each onWhole n w))
-    where
-      go : (e : Ended (List Float)) → next (part at e) n onPart ≡ part at (next e n onWhole)
-      go (done w) = ap (turn n) (add-part n w) ∙ turn-part n (onWhole n w)
-      go (stopped k why w) = refl
-
-  -- the numbers before the part stay
-  abbrev Front : List Float → List Float → Type 0
-  Front w y = take at y ≡ take at w
-
-  kept : (w : List Float) (x : Went) (y : List Float) → Front w y → Good (Front w) (Front w) (x, y)
-  kept w Well y e = e
-  kept w (Bad why) y e = e
-
-  stored : (w : List Float) (c : ℕ) (y : List Float) → Front w y → Front w (onWhole c y .1)
-  unfolding addTo
-  stored w c y e = take-set-le at y (at + c) _ (omega arith) ∙ e
-
-  front-kept : (n : ℕ) (w : List Float) → Over (Front w) (Front w) (each onWhole n w)
-  front-kept n w = each-over (Front w) (Front w) onWhole n w (λ c _ y e. kept w (onWhole c y .0) (onWhole c y .1) (stored w c y e)) refl
-
-  pub lent-each : (n : ℕ) (w : List Float) → lent at (λ y. well (each onPart n y)) w ≡ well (each onWhole n w)
-  lent-each n w = ap (λ (e : Ended (List Float)). (well e .0, take at w ++ well e .1)) (each-part n w) ∙ go (each onWhole n w) (front-kept n w)
-    where
-      go : (e : Ended (List Float)) → Over (Front w) (Front w) e → (well (part at e) .0, take at w ++ well (part at e) .1) ≡ well e
-      go (done y) q = ap (λ (l : List Float). (Well, l)) (rw (← q) (take-append-drop at y))
-      go (stopped k why y) q = ap (λ (l : List Float). (Bad why, l)) (rw (← q) (take-append-drop at y))
 
 -- ---- the blocks that the edges name lie within n unknowns
 pub record Fits (m : Manifold) (n : ℕ) (l : Links Edge) : Type 0 where
@@ -103,9 +51,9 @@ module _ (keeps keeps' : ℕ → ℕ → Bool) (n : ℕ) (m : Manifold) (Level :
     (weaker : (w v : List Float) → P w v → Q w v)
     (slope : (w v : List Float) (i : ℕ) (x : Float) → i < n → P w v → Together P Q (addTo w (n * n + n + i) x) (addTo v (n * n + n + i) x))
     (diagonal : (b : ℕ) (j : List (List Float)) (w v : List Float) → b * dofOf m + dofOf m ≤ n → P w v
-    → Together P Q (blockOf keeps n (dofOf m) b b j j w) (blockOf keeps' n (dofOf m) b b j j v))
+    → Together P Q (blockAdded keeps n (dofOf m) b b j j w) (blockAdded keeps' n (dofOf m) b b j j v))
     (below : (rb cb : ℕ) (jr jc : List (List Float)) (w v : List Float) → cb ≤ rb → (rb ≡ cb → Level) → rb * dofOf m + dofOf m ≤ n → P w v
-    → Together P Q (blockOf keeps n (dofOf m) rb cb jr jc w) (blockOf keeps' n (dofOf m) rb cb jr jc v)) where
+    → Together P Q (blockAdded keeps n (dofOf m) rb cb jr jc w) (blockAdded keeps' n (dofOf m) rb cb jr jc v)) where
   six-together : (r : Residual) (w v : List Float) (f g : Twist → Went × List Float) → P w v → ((d : Twist) → Together P Q (f d) (g d))
       → Together P Q (withSix r f (λ why. (Bad why, w))) (withSix r g (λ why. (Bad why, v)))
   unfolding withSix
@@ -120,32 +68,32 @@ module _ (keeps keeps' : ℕ → ℕ → Bool) (n : ℕ) (m : Manifold) (Level :
   jacobian-together (Bad why, j) w v f g p h = (refl, weaker w v p)
 
   gradient-together : (b : ℕ) (j : List (List Float)) (r w v : List Float) → b * dofOf m + dofOf m ≤ n → P w v
-      → Together P Q (lent (n * n + n + b * dofOf m) (gradientOf (dofOf m) j r) w) (lent (n * n + n + b * dofOf m) (gradientOf (dofOf m) j r) v)
-  unfolding gradientOf
+      → Together P Q (onPart (n * n + n + b * dofOf m) (gradientAdded (dofOf m) j r) w) (onPart (n * n + n + b * dofOf m) (gradientAdded (dofOf m) j r) v)
+  unfolding gradientAdded
   gradient-together b j r w v h p =
-      rw (lent-each (n * n + n + b * dofOf m) (λ c. dotWith j c r) (dofOf m) w, lent-each (n * n + n + b * dofOf m) (λ c. dotWith j c r) (dofOf m) v)
+      rw (part-each (n * n + n + b * dofOf m) (λ c. dotWith j c r) (dofOf m) w, part-each (n * n + n + b * dofOf m) (λ c. dotWith j c r) (dofOf m) v)
       (each-together P Q _ _ (dofOf m) w v
       (λ c l y z q. rw (add-assoc (n * n + n) (b * dofOf m) c) (slope y z (b * dofOf m + c) (dotWith j c r) (omega arith) q)) p)
 
   end-together : (b : ℕ) (j : List (List Float)) (r w v : List Float) → b * dofOf m + dofOf m ≤ n → P w v
-      → Together P Q (endOf keeps n (dofOf m) b j r w) (endOf keeps' n (dofOf m) b j r v)
-  unfolding endOf
+      → Together P Q (endAdded keeps n (dofOf m) b j r w) (endAdded keeps' n (dofOf m) b j r v)
+  unfolding endAdded
   end-together b j r w v h p = then-together P Q _ _ _ _ (gradient-together b j r w v h p) (λ y z q. diagonal b j y z h q)
 
   cross-together : (i k : ℕ) (ja jb : List (List Float)) (w v : List Float) → (i ≡ k → Level) → i * dofOf m + dofOf m ≤ n → k * dofOf m + dofOf m ≤ n → P w v
-      → Together P Q (crossOf keeps n (dofOf m) i k ja jb w) (crossOf keeps' n (dofOf m) i k ja jb v)
-  unfolding crossOf if-then
+      → Together P Q (crossAdded keeps n (dofOf m) i k ja jb w) (crossAdded keeps' n (dofOf m) i k ja jb v)
+  unfolding crossAdded if-then
   cross-together i k ja jb w v o hi hk p = go (ltb i k) (ltb-true i k) (ltb-false i k)
     where
       go : (t : Bool) → (t ≡ true → i < k) → (t ≡ false → k ≤ i)
-          → Together P Q (if-then t (blockOf keeps n (dofOf m) k i jb ja w) (blockOf keeps n (dofOf m) i k ja jb w))
-          (if-then t (blockOf keeps' n (dofOf m) k i jb ja v) (blockOf keeps' n (dofOf m) i k ja jb v))
+          → Together P Q (if-then t (blockAdded keeps n (dofOf m) k i jb ja w) (blockAdded keeps n (dofOf m) i k ja jb w))
+          (if-then t (blockAdded keeps' n (dofOf m) k i jb ja v) (blockAdded keeps' n (dofOf m) i k ja jb v))
       go true f g = below k i jb ja w v (let l = f refl in omega arith) (λ e. o (sym e)) hk p
       go false f g = below i k ja jb w v (g refl) o hi p
 
   ends-together : (i k : ℕ) (ja jb : List (List Float)) (r w v : List Float) → (i ≡ k → Level) → i * dofOf m + dofOf m ≤ n → k * dofOf m + dofOf m ≤ n → P w v
-      → Together P Q (endsOf keeps n (dofOf m) i k ja jb r w) (endsOf keeps' n (dofOf m) i k ja jb r v)
-  unfolding endsOf
+      → Together P Q (endsAdded keeps n (dofOf m) i k ja jb r w) (endsAdded keeps' n (dofOf m) i k ja jb r v)
+  unfolding endsAdded
   ends-together i k ja jb r w v o hi hk p =
       then-together P Q _ _ _ _ (then-together P Q _ _ _ _ (end-together i ja r w v hi p) (λ y z q. end-together k jb r y z hk q))
       (λ y z q. cross-together i k ja jb y z o hi hk q)
@@ -193,10 +141,10 @@ module _ (n : ℕ) (P Q : List Float → Type 0) (weaker : (w : List Float) → 
       go true e = entry w row col v (leb-true col row e) h p
       go false e = p
 
-  block-good : (dof rb cb : ℕ) (jr jc : List (List Float)) (w : List Float) → rb * dof + dof ≤ n → P w → Good P Q (blockOf lowerTriangle n dof rb cb jr jc w)
-  unfolding blockOf rowOf entryOf
+  block-good : (dof rb cb : ℕ) (jr jc : List (List Float)) (w : List Float) → rb * dof + dof ≤ n → P w → Good P Q (blockAdded lowerTriangle n dof rb cb jr jc w)
+  unfolding blockAdded rowAdded entryAdded
   block-good dof rb cb jr jc w h p =
-      each-good P Q (rowOf lowerTriangle n dof rb cb jr jc) dof w
+      each-good P Q (rowAdded lowerTriangle n dof rb cb jr jc) dof w
       (λ r l y q. each-good P Q _ dof y (λ c _ z s. entry-good (rb * dof + r) (cb * dof + c) (dotOf jr r jc c) z (omega arith) s) q) p
 
   pub edges-over : (m : Manifold) (l : Links Edge) (pose : ℕ → Pose) (w : List Float) → Fits m n l → P (cleared n w) → Over P Q (assembledEnds m n l pose w)
@@ -205,6 +153,6 @@ module _ (n : ℕ) (P Q : List Float → Type 0) (weaker : (w : List Float) → 
       alone P Q (endsBy lowerTriangle m n l pose w)
       (edges-abreast lowerTriangle lowerTriangle n m (Unit {0}) (Twin P Q) (Lost P Q) (λ y z q. weaker y (q .0))
       (λ y z i x h q. beside P Q (λ y. addTo y (n * n + n + i) x) y z q (slope y i x h (q .0)))
-      (λ b j y z h q. beside P Q (blockOf lowerTriangle n (dofOf m) b b j j) y z q (block-good (dofOf m) b b j j y h (q .0)))
-      (λ rb cb jr jc y z _ _ h q. beside P Q (blockOf lowerTriangle n (dofOf m) rb cb jr jc) y z q (block-good (dofOf m) rb cb jr jc y h (q .0)))
+      (λ b j y z h q. beside P Q (blockAdded lowerTriangle n (dofOf m) b b j j) y z q (block-good (dofOf m) b b j j y h (q .0)))
+      (λ rb cb jr jc y z _ _ h q. beside P Q (blockAdded lowerTriangle n (dofOf m) rb cb jr jc) y z q (block-good (dofOf m) rb cb jr jc y h (q .0)))
       l pose w f (λ _ _ _ _ _. tt) (p, refl))

@@ -26,20 +26,22 @@ use Rattle.graph.specs.Lent.{dofOf}
 use Rattle.graph.specs.declared.Edge.{Edge}
 use Rattle.graph.specs.declared.Manifold.{Manifold}
 use Rattle.graph.specs.declared.Slot.the-variants.{Block, Fixed}
-use Rattle.solve.specs.Work.{need, matrixOf, gradientOf}
-use Rattle.assembly.specs.Assembly.{dotOf, addTo, cleared, lowerTriangle, wholeBlocks, entryOf, rowOf, blockOf, endsBy, assembledEnds}
+use Rattle.profile.specs.Layout.{need, hessianOf}
+use Rattle.solve.specs.Work.{gradientOf}
+use Rattle.additions.specs.Additions.{dotOf, addTo, lowerTriangle, wholeBlocks, entryAdded, rowAdded, blockAdded}
+use Rattle.assembly.specs.Assembly.{cleared, endsBy, assembledEnds}
 use Rattle.assembly.proofs.Laws.{cleared-room, cleared-zero}
 use Rattle.numbers.proofs.Invariants.{Together, Abreast, each-together}
 use Rattle.assembly.proofs.Walked.{Fits, edges-abreast}
-use Rattle.assembly.proofs.Products.{dot-turned}
+use Rattle.additions.proofs.Products.{dot-turned}
 use Rattle.numbers.proofs.Rows.{told}
-use Rattle.assembly.proofs.DiagonalBlocks.{one-place, sumAt, asked, then-finite, if-finite, Added, block-added}
+use Rattle.additions.proofs.DiagonalBlocks.{one-place, sumAt, asked, then-finite, if-finite, Added, block-added}
 
 -- ---- what is shown
 
 -- the same system: H's lower triangle and the gradient, bit for bit
 pub record SameSystem (n : ℕ) (w v : List Float) : Type 0 where
-  pub matrix : (i j : ℕ) → j ≤ i → i < n → matrixOf w n i j ≡ matrixOf v n i j
+  pub matrix : (i j : ℕ) → j ≤ i → i < n → hessianOf w n i j ≡ hessianOf v n i j
   pub gradient : (i : ℕ) → i < n → gradientOf w n i ≡ gradientOf v n i
 
 -- both done with the same system, or both stopped at the same edge for the same reason
@@ -58,7 +60,7 @@ record Mirrored (n dof : ℕ) (w v : List Float) : Type 0 where
   pub room : need n ≤ length w
   pub as-long : length w ≡ length v
   pub same : SameSystem n w v
-  pub symmetric : (b r c : ℕ) → b * dof + dof ≤ n → r < dof → c < dof → matrixOf v n (b * dof + r) (b * dof + c) ≡ matrixOf v n (b * dof + c) (b * dof + r)
+  pub symmetric : (b r c : ℕ) → b * dof + dof ≤ n → r < dof → c < dof → hessianOf v n (b * dof + r) (b * dof + c) ≡ hessianOf v n (b * dof + c) (b * dof + r)
 
 abbrev Any : List Float → List Float → Type 0
 Any w v = Unit {0}
@@ -108,8 +110,8 @@ module _ (n dof : ℕ) where
 
   -- a block below the diagonal: all of it is kept by both
   below : (rb cb : ℕ) (jr jc : List (List Float)) (w v : List Float) → cb ≤ rb → (rb ≡ cb → ⊥) → rb * dof + dof ≤ n → Mirrored n dof w v
-      → Together (Mirrored n dof) Any (blockOf lowerTriangle n dof rb cb jr jc w) (blockOf wholeBlocks n dof rb cb jr jc v)
-  unfolding blockOf rowOf entryOf
+      → Together (Mirrored n dof) Any (blockAdded lowerTriangle n dof rb cb jr jc w) (blockAdded wholeBlocks n dof rb cb jr jc v)
+  unfolding blockAdded rowAdded entryAdded
   below rb cb jr jc w v h ne fits s =
       each-together (Mirrored n dof) Any _ _ dof w v
       (λ r lr y z p. each-together (Mirrored n dof) Any _ _ dof y z (λ c lc. entry r c lr lc) p) s
@@ -188,21 +190,21 @@ module _ (n dof : ℕ) where
     -- the block added to both
     module _ (y z : List Float) (p : Added n dof b j w lowerTriangle y) (q : Added n dof b j v wholeBlocks z) where
       -- an entry of the block; then one of the whole lower triangle
-      within : (r c : ℕ) → c ≤ r → r < dof → matrixOf y n (b * dof + r) (b * dof + c) ≡ matrixOf z n (b * dof + r) (b * dof + c)
+      within : (r c : ℕ) → c ≤ r → r < dof → hessianOf y n (b * dof + r) (b * dof + c) ≡ hessianOf z n (b * dof + r) (b * dof + c)
       within r c h l =
           p .inside r c l (omega arith) (le-leb (b * dof + c) (b * dof + r) (omega arith)) ∙ agree r c h l ∙ sym (q .inside r c l (omega arith) refl)
 
-      matrix : (i k : ℕ) → k ≤ i → i < n → matrixOf y n i k ≡ matrixOf z n i k
+      matrix : (i k : ℕ) → k ≤ i → i < n → hessianOf y n i k ≡ hessianOf z n i k
       matrix i k h l = go (leb (b * dof) k) (ltb i (b * dof + dof)) (leb-true _ _) (leb-false _ _) (ltb-true _ _) (ltb-false _ _)
         where
-          without : ((r c : ℕ) → r < dof → c < dof → i ≡ b * dof + r → k ≡ b * dof + c → ⊥) → matrixOf y n i k ≡ matrixOf z n i k
+          without : ((r c : ℕ) → r < dof → c < dof → i ≡ b * dof + r → k ≡ b * dof + c → ⊥) → hessianOf y n i k ≡ hessianOf z n i k
           without o = p .outside (k * n + i) off ∙ s .same .matrix i k h l ∙ sym (q .outside (k * n + i) off)
             where
               off : (r c : ℕ) → r < dof → c < dof → k * n + i ≡ (b * dof + c) * n + (b * dof + r) → ⊥
               off r c lr lc e = let t = one-place n i k (b * dof + r) (b * dof + c) l (omega arith) e in o r c lr lc (t .0) (t .1)
 
           go : (t u : Bool) → (t ≡ true → b * dof ≤ k) → (t ≡ false → k < b * dof) → (u ≡ true → i < b * dof + dof) → (u ≡ false → b * dof + dof ≤ i)
-              → matrixOf y n i k ≡ matrixOf z n i k
+              → hessianOf y n i k ≡ hessianOf z n i k
           go true true f _ g _ =
               let fk = f refl in
               let gi = g refl in
@@ -214,15 +216,15 @@ module _ (n dof : ℕ) where
           go false false _ f _ _ = without (λ r c lr lc ei ek. let fk = f refl in omega arith)
 
       still-symmetric : (b' r c : ℕ) → b' * dof + dof ≤ n → r < dof → c < dof
-          → matrixOf z n (b' * dof + r) (b' * dof + c) ≡ matrixOf z n (b' * dof + c) (b' * dof + r)
+          → hessianOf z n (b' * dof + r) (b' * dof + c) ≡ hessianOf z n (b' * dof + c) (b' * dof + r)
       still-symmetric b' r c f h l = go (eqb b' b) (eqb-true b' b) (eqb-false b' b)
         where
           go : (t : Bool) → (t ≡ true → b' ≡ b) → (t ≡ false → b' ≡ b → ⊥)
-              → matrixOf z n (b' * dof + r) (b' * dof + c) ≡ matrixOf z n (b' * dof + c) (b' * dof + r)
+              → hessianOf z n (b' * dof + r) (b' * dof + c) ≡ hessianOf z n (b' * dof + c) (b' * dof + r)
           go true e _ = rw (e refl) (q .inside r c h l refl ∙ turned r c h l ∙ sym (q .inside c r l h refl))
           go false _ o = other r c h l ∙ s .symmetric b' r c f h l ∙ sym (other c r l h)
             where
-              other : (r c : ℕ) → r < dof → c < dof → matrixOf z n (b' * dof + r) (b' * dof + c) ≡ matrixOf v n (b' * dof + r) (b' * dof + c)
+              other : (r c : ℕ) → r < dof → c < dof → hessianOf z n (b' * dof + r) (b' * dof + c) ≡ hessianOf v n (b' * dof + r) (b' * dof + c)
               other r c h l =
                   q .outside _
                   (λ x y lx ly e. let t = one-place n (b' * dof + r) (b' * dof + c) (b * dof + x) (b * dof + y) (omega arith) (omega arith) e in
@@ -240,7 +242,7 @@ module _ (n dof : ℕ) where
           past : (i r c : ℕ) → r < dof → c < dof → n * n + n + i ≡ (b * dof + c) * n + (b * dof + r) → ⊥
           past i r c h l e = let z : (b * dof + c) * n + (b * dof + r) < n * n = digits-lt (omega arith) (omega arith) in omega arith
 
-    diagonal : Together (Mirrored n dof) Any (blockOf lowerTriangle n dof b b j j w) (blockOf wholeBlocks n dof b b j j v)
+    diagonal : Together (Mirrored n dof) Any (blockAdded lowerTriangle n dof b b j j w) (blockAdded wholeBlocks n dof b b j j v)
     diagonal =
         let p = block-added n dof b j w lowerTriangle fits wide in
         let q = block-added n dof b j v wholeBlocks fits wide' in
@@ -257,7 +259,7 @@ module _ (n dof : ℕ) where
             ∙ sym (zero (b * dof + c) (b * dof + r) (omega arith) (omega arith));
       }
     where
-      zero : (i k : ℕ) → i < n → k < n → matrixOf (cleared n w) n i k ≡ num 0
+      zero : (i k : ℕ) → i < n → k < n → hessianOf (cleared n w) n i k ≡ num 0
       zero i k l h = cleared-zero n w (k * n + i) (in-matrix i k l h)
 
 -- ---- so both are done with the same system, or stop at the same edge

@@ -1,6 +1,5 @@
--- What an assembly knows of each pose, worked out once and kept in cells of eight numbers (`residual`'s Stowed): first the transforms of the first 256
--- poses, then twelve cells a pose, of its probes ahead along each axis and of its probes behind. `free-known` of proofs/Knowing says that the
--- cells of a free pose hold its probes. Definitions only.
+-- What an assembly knows of each pose, worked out once and kept in cells, as `jacobians` reads them. `free-known` of proofs/Knowing says that the cells of a
+-- free pose hold its probes. Definitions only.
 use Prim.Native.Nat.{ℕ, _+_, _*_, _<_, _≤_}
 use mathlib.Core.Path.{_≡_}
 use mathlib.Core.Logic.{_⊎_}
@@ -14,18 +13,11 @@ use Rattle.graph.specs.Lent.{dofOf, poseAt, slotIn}
 use Rattle.graph.specs.declared.Manifold.{Manifold}
 use Rattle.graph.specs.declared.Slot.{Slot}
 use Rattle.graph.specs.declared.Slot.the-variants.{Block, Fixed}
-use Rattle.residual.specs.Stowed.{stowedIn, knownPoses, Based}
+use Rattle.costs.specs.Stowed.{stowedIn, knownPoses, Based}
 use Rattle.probes.specs.Probes.{probesOf}
-use Rattle.assembly.specs.FromParts.{SharesTurn}
+use Rattle.jacobians.specs.FromProbes.{SharesTurn}
+use Rattle.jacobians.specs.Cells.{spot, stowedProbes}
 use Rattle.assembly.specs.declared.Shape.{Shape}
-
--- the cell of pose x's probe along axis c
-abbrev pub spot : ℕ → ℕ → Bool → ℕ
-spot x c true = 256 + (x * 12 + c)
-spot x c false = 256 + (x * 12 + (6 + c))
-
-abbrev pub stowedProbes : List Float → ℕ → ℕ → Bool → Converted
-stowedProbes l x c ahead = stowedIn l (spot x c ahead)
 
 -- ---- what the code makes of the cells l
 

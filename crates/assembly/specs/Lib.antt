@@ -1,4 +1,3 @@
-pub mod Jacobians
 pub mod Assembly
 pub mod FromParts
 pub mod Known

@@ -12,9 +12,9 @@ use denote.Floats.{passes, is-true}
 use borrow.Author.Tests.{leb-true, leb-false, ne-eqb}
 use Rattle.numbers.specs.Notation.{num}
 use Rattle.numbers.proofs.Choices.{left}
-use Rattle.decisions.specs.Damping.{increased, decreased, most}
-use Rattle.decisions.specs.Run.{begun, iterations, oneMore, turned}
-use Rattle.decisions.specs.Driven.{settled, after, driven}
+use Rattle.decisions.specs.Damping.{increased, decreased, lambdaMax}
+use Rattle.decisions.specs.Run.{begun, iterations, oneMore, afterTurn}
+use Rattle.decisions.specs.Driven.{settled, afterEvent, driven}
 use Rattle.decisions.specs.Demand.{Held}
 use Rattle.decisions.specs.Machine.{stateOf}
 use Rattle.decisions.specs.declared.State.{State}
@@ -36,7 +36,7 @@ unfolding oneMore
 one-more n l = sym (left n (ne-eqb n 4294967295 (λ e. omega arith)) refl)
 
 -- ---- a level as a difference of counts: r raises and a lowerings
-raise-by : (r a n : ℕ) (d : Float) → At (r - a) d → lt most (increased d) ≡ false → n ≡ r + 1 - a → At n (increased d)
+raise-by : (r a n : ℕ) (d : Float) → At (r - a) d → lt lambdaMax (increased d) ≡ false → n ≡ r + 1 - a → At n (increased d)
 raise-by r a n d h e m = go (leb a r) refl
   where
     go : (b : Bool) → leb a r ≡ b → At n (increased d)
@@ -175,7 +175,7 @@ abbrev pub Kept : ℕ → Float → Next → Type 0
 Kept limit first n = Both (Live limit first) (Held limit first) n
 
 module _ (limit : ℕ) (tolerance first : Float) where
-  pub turn-keeps : (s : State) (a : Assembly) (e : Raw) → Live limit first s → Kept limit first (turned limit tolerance s a e)
+  pub turn-keeps : (s : State) (a : Assembly) (e : Raw) → Live limit first s → Kept limit first (afterTurn limit tolerance s a e)
   turn-keeps s a e h = turn-cases (Live limit first) (Held limit first) limit tolerance s (ways limit first s h) a e
 
   settled-keeps : (n : Next) → Kept limit first n → Kept limit first (settled limit n)
@@ -183,8 +183,8 @@ module _ (limit : ℕ) (tolerance first : Float) where
   settled-keeps (next.On s) h = either (Live limit first) (Held limit first) (s .fresh && leb limit (iterations s)) _ _ (λ e. live-held limit first s h) (λ e. h)
   settled-keeps (next.Over s e) h = h
 
-  after-keeps : (n : Next) (v : Event) → Kept limit first n → Kept limit first (after limit tolerance n v)
-  unfolding after
+  after-keeps : (n : Next) (v : Event) → Kept limit first n → Kept limit first (afterEvent limit tolerance n v)
+  unfolding afterEvent
   after-keeps (next.On s) (event.Assembled a) h = either (Live limit first) (Held limit first) (s .fresh) _ _ (λ e. turn-keeps s a raw.Failed h) (λ e. h)
   after-keeps (next.On s) (event.Solved e) h = turn-keeps s assembly.Steep e h
   after-keeps (next.Over s e) v h = h
@@ -192,13 +192,13 @@ module _ (limit : ℕ) (tolerance first : Float) where
   driven-keeps : (n : Next) (vs : List Event) → Kept limit first n → Kept limit first (driven limit tolerance n vs)
   unfolding driven
   driven-keeps n [] h = settled-keeps n h
-  driven-keeps n (v ∷ vs) h = driven-keeps (after limit tolerance (settled limit n) v) vs (after-keeps (settled limit n) v (settled-keeps n h))
+  driven-keeps n (v ∷ vs) h = driven-keeps (afterEvent limit tolerance (settled limit n) v) vs (after-keeps (settled limit n) v (settled-keeps n h))
 
 pub kept-held : (limit : ℕ) (first : Float) (n : Next) → Kept limit first n → Held limit first (stateOf n)
 kept-held limit first (next.On s) h = live-held limit first s h
 kept-held limit first (next.Over s e) h = h
 
-module _ (limit : ℕ) (cost d : Float) (l : limit ≤ 1000) (f : T (fits binary32 d)) (p : lt (num 0) d ≡ true) (u : le d most ≡ true) where
+module _ (limit : ℕ) (cost d : Float) (l : limit ≤ 1000) (f : T (fits binary32 d)) (p : lt (num 0) d ≡ true) (u : le d lambdaMax ≡ true) where
   -- the run starts live, for a limit and a first damping that pass the checks
   pub begun-live : Live limit cost (begun cost d)
   begun-live =

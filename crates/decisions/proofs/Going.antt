@@ -9,8 +9,8 @@ use lib.Ieee.{Float, binary32, lt, le, fits}
 use borrow.Author.Tests.{le-ltb}
 use Rattle.numbers.specs.Notation.{num}
 use Rattle.numbers.proofs.Choices.{left}
-use Rattle.decisions.specs.Damping.{most}
-use Rattle.decisions.specs.Run.{begun, passed, turned}
+use Rattle.decisions.specs.Damping.{lambdaMax}
+use Rattle.decisions.specs.Run.{begun, passed, afterTurn}
 use Rattle.decisions.specs.Machine.{Numerics, movedOn, nextOf, heldOf, play, played, enough, stateOf}
 use Rattle.decisions.specs.declared.State.{State}
 use Rattle.decisions.specs.declared.Gate.the-variants as gate
@@ -31,7 +31,7 @@ abbrev pub turnsLeft : ℕ → State → ℕ
 turnsLeft limit s = enough limit - s .solves
 
 module _ {X : Type 0} (m : Numerics X) (limit : ℕ) (tolerance cost damping : Float) (given : X) where
-  pub going-begin : limit ≤ 1000 → T (fits binary32 damping) → lt (num 0) damping ≡ true → le damping most ≡ true → Going m limit tolerance cost damping given (begun cost damping) given
+  pub going-begin : limit ≤ 1000 → T (fits binary32 damping) → lt (num 0) damping ≡ true → le damping lambdaMax ≡ true → Going m limit tolerance cost damping given (begun cost damping) given
   going-begin l f p u =
       record {
         live = begun-live limit cost damping l f p u;
@@ -41,7 +41,7 @@ module _ {X : Type 0} (m : Numerics X) (limit : ℕ) (tolerance cost damping : F
   module _ (s : State) (x : X) (g : Going m limit tolerance cost damping given s x) where
     -- the next turn, and what is held after it where the run has come to t
     abbrev turn : Next
-    turn = turned limit tolerance s (m .assemble x) (m .attempt x (s .damping))
+    turn = afterTurn limit tolerance s (m .assemble x) (m .attempt x (s .damping))
 
     abbrev then : State → X
     then t = movedOn s t (m .moved x (s .damping)) x
@@ -54,7 +54,7 @@ module _ {X : Type 0} (m : Numerics X) (limit : ℕ) (tolerance cost damping : F
         let e : enough limit - s .solves ≡ suc (enough limit - (s .solves + 1)) = omega arith in
         g .rest ∙ ap (λ (k : ℕ). play m limit tolerance k (next.On s) x) e
 
-    module _ (t : State) (q : turned limit tolerance s (m .assemble x) (m .attempt x (s .damping)) ≡ next.On t) where
+    module _ (t : State) (q : afterTurn limit tolerance s (m .assemble x) (m .attempt x (s .damping)) ≡ next.On t) where
       pub going-on : Going m limit tolerance cost damping given t (movedOn s t (m .moved x (s .damping)) x)
       going-on =
           record {
@@ -71,7 +71,7 @@ module _ {X : Type 0} (m : Numerics X) (limit : ℕ) (tolerance cost damping : F
           let b : s .solves < enough limit = live-solves limit cost s (g .live) in
           omega arith
 
-    pub going-done : (t : State) (e : End) → turned limit tolerance s (m .assemble x) (m .attempt x (s .damping)) ≡ next.Over t e
+    pub going-done : (t : State) (e : End) → afterTurn limit tolerance s (m .assemble x) (m .attempt x (s .damping)) ≡ next.Over t e
         → played m limit tolerance cost damping given ≡ record { next = next.Over t e; held = movedOn s t (m .moved x (s .damping)) x }
     going-done t e q =
         turn-rest

@@ -9,7 +9,7 @@ use lib.Ieee.{Float, binary32, lt, le, fits}
 use borrow.Author.Tests.{lt-ltb, le-ltb}
 use Rattle.numbers.specs.Notation.{num, if-then}
 use Rattle.numbers.proofs.Choices.{taken, left}
-use Rattle.decisions.specs.Damping.{most}
+use Rattle.decisions.specs.Damping.{lambdaMax}
 use Rattle.decisions.specs.declared.State.{State}
 use Rattle.decisions.specs.declared.Assembly.{Assembly}
 use Rattle.decisions.specs.declared.Assembly.the-variants as assembly
@@ -23,7 +23,7 @@ use Rattle.decisions.specs.declared.End.the-variants as end
 use Rattle.decisions.specs.declared.Gate.the-variants as gate
 use Rattle.decisions.specs.declared.Next.{Next}
 use Rattle.decisions.specs.declared.Next.the-variants as next
-use Rattle.decisions.specs.Run.{begun, iterations, oneMore, judged, heard, failing, accepting, rejecting, solved, assembled, passed, thenSolve, turned}
+use Rattle.decisions.specs.Run.{begun, iterations, oneMore, judged, heard, failing, accepting, rejecting, solved, assembled, passed, thenSolve, afterTurn}
 use Rattle.decisions.specs.Machine.{Numerics, movedOn, nextOf, heldOf, play, played, enough, stateOf}
 use Rattle.decisions.proofs.Bounds.{Live, Kept, more-accepted, begun-live}
 use Rattle.decisions.proofs.Machines.{next-keeps}
@@ -63,8 +63,8 @@ module _ (limit : ℕ) (tolerance : Float) (s : State) where
       at true = accepting-tells new
       at false = rejecting-tells (raw.Priced new)
 
-  turned-tells : (a : Assembly) (e : Raw) → Tells s e (stateOf (turned limit tolerance s a e))
-  unfolding turned passed assembled thenSolve if-then
+  turned-tells : (a : Assembly) (e : Raw) → Tells s e (stateOf (afterTurn limit tolerance s a e))
+  unfolding afterTurn passed assembled thenSolve if-then
   turned-tells a e = top (s .fresh) (leb limit (iterations s)) a
     where
       over : (a : Assembly) → Tells s e (stateOf (thenSolve (assembled a) limit tolerance s e))
@@ -105,6 +105,6 @@ module _ {X : Type 0} (C : X → Float → Type 0) (m : Numerics X)
   play-holds (suc turns) first n x k h =
       play-holds turns first (nextOf m limit tolerance n x) (heldOf m limit tolerance n x) (next-keeps m limit tolerance first n x k) (next-holds first n x k h)
 
-  pub played-holds : (cost damping : Float) (x : X) → limit ≤ 1000 → T (fits binary32 damping) → lt (num 0) damping ≡ true → le damping most ≡ true → C x cost
+  pub played-holds : (cost damping : Float) (x : X) → limit ≤ 1000 → T (fits binary32 damping) → lt (num 0) damping ≡ true → le damping lambdaMax ≡ true → C x cost
       → C (played m limit tolerance cost damping x .held) (stateOf (played m limit tolerance cost damping x .next) .cost)
   played-holds cost damping x l f p u h = play-holds (enough limit) cost (next.On (begun cost damping)) x (begun-live limit cost damping l f p u) h

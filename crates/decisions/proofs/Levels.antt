@@ -14,7 +14,7 @@ use lib.Ieee.Fits.{up-pos, and-l, and-r}
 use lib.Ieee.Order.{round-mono}
 use lib.Ieee.Positive.{num, den, den-pos}
 use Rattle.numbers.specs.Notation.{num as number, ratio, ratio32, if-then}
-use Rattle.decisions.specs.Damping.{factor, least, most, increased, decreased}
+use Rattle.decisions.specs.Damping.{lambdaFactor, lambdaMin, lambdaMax, increased, decreased}
 use Rattle.numbers.proofs.Order.{plain, unsigned, le→frac, frac→le, le-through, le-of-not-lt, le-of-lt', plain-below, plain-unsigned, round-unsigned}
 
 unfoldable pub rung : ℕ → Float
@@ -23,7 +23,7 @@ rung (suc k) = increased (rung k)
 
 -- from r up for n rungs: each is plain and no higher than the next one lowered, and the last is above 1e10
 climbs : ℕ → Float → Bool
-climbs zero r = plain r && lt most r
+climbs zero r = plain r && lt lambdaMax r
 climbs (suc n) r = plain r && (le r (decreased (increased r)) && climbs n (increased r))
 
 climbs-all : T (climbs 55 (fin false 1 (negsuc 148)))
@@ -38,7 +38,7 @@ increased-is (inf s) p = absurd p
 increased-is (fin true m e) p = absurd p
 increased-is (fin false m e) p = refl
 
-tenth-is : (x : Float) → T (plain x) → div binary32 x factor ≡ round binary32 false (num x * 1) (10 * den x)
+tenth-is : (x : Float) → T (plain x) → div binary32 x lambdaFactor ≡ round binary32 false (num x * 1) (10 * den x)
 unfolding div ratio
 tenth-is nan p = absurd p
 tenth-is (inf s) p = absurd p
@@ -59,23 +59,23 @@ increased-mono x y p q h =
     (subst (λ (z : Float). T (le (round binary32 false (num x * 10) (den x * 1)) z)) (sym (increased-is y q))
     (round-mono binary32 (num x * 10) (den x * 1) (num y * 10) (den y * 1) (mul-pos (den-pos x) (pow-pos 0)) (mul-pos (den-pos y) (pow-pos 0)) (scaled (num x) (den x) (num y) (den y) (le→frac x y p q h))))
 
-tenth-mono : (x y : Float) → T (plain x) → T (plain y) → T (le x y) → T (le (div binary32 x factor) (div binary32 y factor))
+tenth-mono : (x y : Float) → T (plain x) → T (plain y) → T (le x y) → T (le (div binary32 x lambdaFactor) (div binary32 y lambdaFactor))
 tenth-mono x y p q h =
-    subst (λ (z : Float). T (le z (div binary32 y factor))) (sym (tenth-is x p))
+    subst (λ (z : Float). T (le z (div binary32 y lambdaFactor))) (sym (tenth-is x p))
     (subst (λ (z : Float). T (le (round binary32 false (num x * 1) (10 * den x)) z)) (sym (tenth-is y q))
     (round-mono binary32 (num x * 1) (10 * den x) (num y * 1) (10 * den y) (mul-pos (ltb→lt 0 10 tt) (den-pos x)) (mul-pos (ltb→lt 0 10 tt) (den-pos y)) (shrunk (num x) (den x) (num y) (den y) (le→frac x y p q h))))
 
 increased-unsigned : (x : Float) → T (plain x) → T (unsigned (increased x))
 increased-unsigned x p = subst (λ (z : Float). T (unsigned z)) (sym (increased-is x p)) (round-unsigned binary32 (num x * 10) (den x * 1))
 
-tenth-unsigned : (x : Float) → T (plain x) → T (unsigned (div binary32 x factor))
+tenth-unsigned : (x : Float) → T (plain x) → T (unsigned (div binary32 x lambdaFactor))
 tenth-unsigned x p = subst (λ (z : Float). T (unsigned z)) (sym (tenth-is x p)) (round-unsigned binary32 (num x * 1) (10 * den x))
 
-least-plain : T (plain least)
+least-plain : T (plain lambdaMin)
 unfolding ratio32
 least-plain = tt
 
-most-plain : T (plain most)
+most-plain : T (plain lambdaMax)
 unfolding ratio32
 most-plain = tt
 
@@ -84,56 +84,56 @@ same x p = frac→le x x p p (le-of-eq refl)
 
 -- ---- the larger of a value and 1e-10
 abbrev atLeast : Float → Float
-atLeast q = if-then (lt q least) least q
+atLeast q = if-then (lt q lambdaMin) lambdaMin q
 
-least-under : (q : Float) → T (unsigned q) → T (le least (atLeast q))
+least-under : (q : Float) → T (unsigned q) → T (le lambdaMin (atLeast q))
 unfolding if-then
-least-under q p = go (lt q least) refl
+least-under q p = go (lt q lambdaMin) refl
   where
-    go : (b : Bool) → lt q least ≡ b → T (le least (if-then b least q))
-    go true e = same least least-plain
-    go false e = le-of-not-lt least q (plain-unsigned least least-plain) p e
+    go : (b : Bool) → lt q lambdaMin ≡ b → T (le lambdaMin (if-then b lambdaMin q))
+    go true e = same lambdaMin least-plain
+    go false e = le-of-not-lt lambdaMin q (plain-unsigned lambdaMin least-plain) p e
 
 atLeast-unsigned : (q : Float) → T (unsigned q) → T (unsigned (atLeast q))
 unfolding if-then
-atLeast-unsigned q p = go (lt q least)
+atLeast-unsigned q p = go (lt q lambdaMin)
   where
-    go : (b : Bool) → T (unsigned (if-then b least q))
-    go true = plain-unsigned least least-plain
+    go : (b : Bool) → T (unsigned (if-then b lambdaMin q))
+    go true = plain-unsigned lambdaMin least-plain
     go false = p
 
 atLeast-mono : (q r : Float) → T (unsigned q) → T (unsigned r) → T (le q r) → T (le (atLeast q) (atLeast r))
 unfolding if-then
-atLeast-mono q r p s h = go (lt q least) (lt r least) refl
+atLeast-mono q r p s h = go (lt q lambdaMin) (lt r lambdaMin) refl
   where
-    go : (b c : Bool) → lt r least ≡ c → T (le (if-then b least q) (if-then c least r))
-    go true true e = same least least-plain
-    go true false e = le-of-not-lt least r (plain-unsigned least least-plain) s e
-    go false true e = le-through q r least p s (plain-unsigned least least-plain) h (le-of-lt' r least (subst T (sym e) tt))
+    go : (b c : Bool) → lt r lambdaMin ≡ c → T (le (if-then b lambdaMin q) (if-then c lambdaMin r))
+    go true true e = same lambdaMin least-plain
+    go true false e = le-of-not-lt lambdaMin r (plain-unsigned lambdaMin least-plain) s e
+    go false true e = le-through q r lambdaMin p s (plain-unsigned lambdaMin least-plain) h (le-of-lt' r lambdaMin (subst T (sym e) tt))
     go false false e = h
 
 decreased-mono : (x y : Float) → T (plain x) → T (plain y) → T (le x y) → T (le (decreased x) (decreased y))
 unfolding decreased
-decreased-mono x y p q h = atLeast-mono (div binary32 x factor) (div binary32 y factor) (tenth-unsigned x p) (tenth-unsigned y q) (tenth-mono x y p q h)
+decreased-mono x y p q h = atLeast-mono (div binary32 x lambdaFactor) (div binary32 y lambdaFactor) (tenth-unsigned x p) (tenth-unsigned y q) (tenth-mono x y p q h)
 
 decreased-unsigned : (x : Float) → T (plain x) → T (unsigned (decreased x))
 unfolding decreased
-decreased-unsigned x p = atLeast-unsigned (div binary32 x factor) (tenth-unsigned x p)
+decreased-unsigned x p = atLeast-unsigned (div binary32 x lambdaFactor) (tenth-unsigned x p)
 
-decreased-least : (x : Float) → T (plain x) → T (le least (decreased x))
+decreased-least : (x : Float) → T (plain x) → T (le lambdaMin (decreased x))
 unfolding decreased
-decreased-least x p = least-under (div binary32 x factor) (tenth-unsigned x p)
+decreased-least x p = least-under (div binary32 x lambdaFactor) (tenth-unsigned x p)
 
-decreased-top : T (le (decreased most) most)
+decreased-top : T (le (decreased lambdaMax) lambdaMax)
 unfolding decreased if-then div lt le ratio ratio32
 decreased-top = tt
 
-decreased-under : (x : Float) → T (plain x) → T (le x most) → T (le (decreased x) most)
+decreased-under : (x : Float) → T (plain x) → T (le x lambdaMax) → T (le (decreased x) lambdaMax)
 decreased-under x p h =
-    le-through (decreased x) (decreased most) most (decreased-unsigned x p) (decreased-unsigned most most-plain) (plain-unsigned most most-plain) (decreased-mono x most p most-plain h) decreased-top
+    le-through (decreased x) (decreased lambdaMax) lambdaMax (decreased-unsigned x p) (decreased-unsigned lambdaMax most-plain) (plain-unsigned lambdaMax most-plain) (decreased-mono x lambdaMax p most-plain h) decreased-top
 
-decreased-plain : (x : Float) → T (plain x) → T (le x most) → T (plain (decreased x))
-decreased-plain x p h = plain-below (decreased x) most (decreased-unsigned x p) most-plain (decreased-under x p h)
+decreased-plain : (x : Float) → T (plain x) → T (le x lambdaMax) → T (plain (decreased x))
+decreased-plain x p h = plain-below (decreased x) lambdaMax (decreased-unsigned x p) most-plain (decreased-under x p h)
 
 -- ---- the rungs
 step-down : (j k : ℕ) → suc k + j ≡ 55 → k + suc j ≡ 55
@@ -148,7 +148,7 @@ reach j (suc k) e =
 
 plain-at : (j : ℕ) (r : Float) → T (climbs j r) → T (plain r)
 unfolding climbs
-plain-at zero r t = and-l (plain r) (lt most r) t
+plain-at zero r t = and-l (plain r) (lt lambdaMax r) t
 plain-at (suc j) r t = and-l (plain r) (le r (decreased (increased r)) && climbs j (increased r)) t
 
 rest : (k n : ℕ) → k ≤ n → k + (n - k) ≡ n
@@ -167,9 +167,9 @@ rung-decreased k h =
     let j = 54 - k in
     and-l (le r (decreased (increased r))) (climbs j (increased r)) (and-r (plain r) (le r (decreased (increased r)) && climbs j (increased r)) (reach (suc j) k (rest-suc k h)))
 
-rung-top : T (lt most (rung 55))
+rung-top : T (lt lambdaMax (rung 55))
 unfolding climbs
-rung-top = and-r (plain (rung 55)) (lt most (rung 55)) (reach 0 55 refl)
+rung-top = and-r (plain (rung 55)) (lt lambdaMax (rung 55)) (reach 0 55 refl)
 
 clash : (x y : Float) → T (plain x) → T (plain y) → T (lt x y) → T (le y x) → ⊥
 unfolding lt
@@ -182,7 +182,7 @@ clash (fin false m e) (fin true n d) p q h k = absurd q
 clash (fin false m e) (fin false n d) p q h k =
     not-le-of-lt (ltb→lt (m * up e * down d) (n * up d * down e) h) (le→frac (fin false n d) (fin false m e) tt tt k)
 
-ground : T (le (rung 0) least)
+ground : T (le (rung 0) lambdaMin)
 unfolding rung le ratio32
 ground = tt
 
@@ -195,13 +195,13 @@ pub record At (k : ℕ) (d : Float) : Type 0 where
   pub low : k ≤ 54
   pub is-plain : T (plain d)
   pub above : T (le (rung k) d)
-  pub under : T (le d most)
+  pub under : T (le d lambdaMax)
 
 -- no damping up to 1e10 is at rung 55
-not-top : (d : Float) → T (plain d) → T (le d most) → T (le (rung 55) d) → ⊥
+not-top : (d : Float) → T (plain d) → T (le d lambdaMax) → T (le (rung 55) d) → ⊥
 not-top d p u h =
-    clash most (rung 55) most-plain (rung-plain 55 (le-of-eq refl)) rung-top
-    (le-through (rung 55) d most (plain-unsigned (rung 55) (rung-plain 55 (le-of-eq refl))) (plain-unsigned d p) (plain-unsigned most most-plain) h u)
+    clash lambdaMax (rung 55) most-plain (rung-plain 55 (le-of-eq refl)) rung-top
+    (le-through (rung 55) d lambdaMax (plain-unsigned (rung 55) (rung-plain 55 (le-of-eq refl))) (plain-unsigned d p) (plain-unsigned lambdaMax most-plain) h u)
 
 -- no rung is below the first
 above-ground : (k : ℕ) → k ≤ 54 → T (le (rung 0) (rung k))
@@ -235,15 +235,15 @@ module _ (k : ℕ) (d : Float) (a : At k d) where
           (le-through (rung 0) (rung k) (number 0) r s zero-unsigned (above-ground k (a .low))
           (le-through (rung k) d (number 0) s t zero-unsigned (a .above) (le-of-not-lt d (number 0) t zero-unsigned e))))
 
-  pub at-most : lt most d ≡ false
-  at-most = go (lt most d) refl
+  pub at-most : lt lambdaMax d ≡ false
+  at-most = go (lt lambdaMax d) refl
     where
-      go : (b : Bool) → lt most d ≡ b → b ≡ false
-      go true e = absurd (clash most d most-plain (a .is-plain) (subst T (sym e) tt) (a .under))
+      go : (b : Bool) → lt lambdaMax d ≡ b → b ≡ false
+      go true e = absurd (clash lambdaMax d most-plain (a .is-plain) (subst T (sym e) tt) (a .under))
       go false e = refl
 
 -- at or above a rung up to 55, and up to 1e10: at that level
-at-of : (k : ℕ) (d : Float) → k ≤ 55 → T (plain d) → T (le (rung k) d) → T (le d most) → At k d
+at-of : (k : ℕ) (d : Float) → k ≤ 55 → T (plain d) → T (le (rung k) d) → T (le d lambdaMax) → At k d
 at-of k d h p a u = record { low = go (eq-or-lt-of-le h); is-plain = p; above = a; under = u }
   where
     go : (k ≡ 55) ⊎ (k < 55) → k ≤ 54
@@ -251,12 +251,12 @@ at-of k d h p a u = record { low = go (eq-or-lt-of-le h); is-plain = p; above = 
     go (inr l) = omega arith
 
 -- raised, and still up to 1e10: one level up, and from the ground never below it
-module _ (k : ℕ) (d : Float) (a : At k d) (e : lt most (increased d) ≡ false) where
-  still-under : T (le (increased d) most)
-  still-under = le-of-not-lt (increased d) most (increased-unsigned d (a .is-plain)) (plain-unsigned most most-plain) e
+module _ (k : ℕ) (d : Float) (a : At k d) (e : lt lambdaMax (increased d) ≡ false) where
+  still-under : T (le (increased d) lambdaMax)
+  still-under = le-of-not-lt (increased d) lambdaMax (increased-unsigned d (a .is-plain)) (plain-unsigned lambdaMax most-plain) e
 
   still-plain : T (plain (increased d))
-  still-plain = plain-below (increased d) most (increased-unsigned d (a .is-plain)) most-plain still-under
+  still-plain = plain-below (increased d) lambdaMax (increased-unsigned d (a .is-plain)) most-plain still-under
 
   up-one : T (le (rung (suc k)) (increased d))
   unfolding rung
@@ -265,7 +265,7 @@ module _ (k : ℕ) (d : Float) (a : At k d) (e : lt most (increased d) ≡ false
   pub raise-at : At (suc k) (increased d)
   raise-at = at-of (suc k) (increased d) (suc-le-suc (a .low)) still-plain up-one still-under
 
-pub raise-ground : (d : Float) → At 0 d → lt most (increased d) ≡ false → At 0 (increased d)
+pub raise-ground : (d : Float) → At 0 d → lt lambdaMax (increased d) ≡ false → At 0 (increased d)
 raise-ground d a e =
     at-of 0 (increased d) zero-le (still-plain 0 d a e)
     (le-through (rung 0) (rung 1) (increased d) (plain-unsigned (rung 0) (rung-plain 0 zero-le)) (plain-unsigned (rung 1) (rung-plain 1 (leb→le 1 55 tt))) (increased-unsigned d (a .is-plain)) first-up (up-one 0 d a e))
@@ -292,7 +292,7 @@ lower-ground k d a =
     record {
       low = zero-le;
       is-plain = decreased-plain d p (a .under);
-      above = le-through (rung 0) least (decreased d) (plain-unsigned (rung 0) (rung-plain 0 zero-le)) (plain-unsigned least least-plain) (decreased-unsigned d p) ground (decreased-least d p);
+      above = le-through (rung 0) lambdaMin (decreased d) (plain-unsigned (rung 0) (rung-plain 0 zero-le)) (plain-unsigned lambdaMin least-plain) (decreased-unsigned d p) ground (decreased-least d p);
       under = decreased-under d p (a .under);
     }
 
@@ -306,7 +306,7 @@ wide m u d U h =
     leb·one : (n : ℕ) → T (ltb 0 (suc n))
     leb·one n = lt→ltb 0 (suc n) (zero-lt-suc n)
 
-pub first-at : (d : Float) → T (fits binary32 d) → T (lt (number 0) d) → T (le d most) → At 0 d
+pub first-at : (d : Float) → T (fits binary32 d) → T (lt (number 0) d) → T (le d lambdaMax) → At 0 d
 unfolding fits lt le ratio ratio32 rung
 first-at nan f p u = absurd p
 first-at (inf true) f p u = absurd p

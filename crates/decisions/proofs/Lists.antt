@@ -7,7 +7,7 @@ use lib.ListN.{length, drop, getD, drop-of-length-le}
 use lib.Seq.{drop-cons}
 use lib.Ieee.{Float, nan}
 use Rattle.numbers.proofs.Tables.{length-table, getD-table}
-use Rattle.decisions.specs.Driven.{after, settled, driven, eventOf, eventsOf}
+use Rattle.decisions.specs.Driven.{afterEvent, settled, driven, eventOf, eventsOf}
 use Rattle.decisions.specs.declared.Next.{Next}
 
 module _ (limit : ℕ) (tolerance : Float) (numbers : List ℕ) (prices : List Float) where
@@ -21,7 +21,7 @@ module _ (limit : ℕ) (tolerance : Float) (numbers : List ℕ) (prices : List F
 
   -- one event more
   pub driven-more : (i : ℕ) (n : Next) → i < length numbers
-      → driven limit tolerance n (drop i (eventsOf numbers prices)) ≡ driven limit tolerance (after limit tolerance (settled limit n) (eventOf (getD numbers i 0) (getD prices i nan))) (drop (i + 1) (eventsOf numbers prices))
+      → driven limit tolerance n (drop i (eventsOf numbers prices)) ≡ driven limit tolerance (afterEvent limit tolerance (settled limit n) (eventOf (getD numbers i 0) (getD prices i nan))) (drop (i + 1) (eventsOf numbers prices))
   unfolding driven
   driven-more i n l = rw (first i l)
 

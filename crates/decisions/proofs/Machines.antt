@@ -9,8 +9,8 @@ use lib.Ieee.{Float, binary32, lt, le, fits}
 use borrow.Author.Tests.{le-ltb}
 use Rattle.numbers.specs.Notation.{num, if-then}
 use Rattle.numbers.proofs.Choices.{left}
-use Rattle.decisions.specs.Damping.{most}
-use Rattle.decisions.specs.Run.{begun, oneMore, turned}
+use Rattle.decisions.specs.Damping.{lambdaMax}
+use Rattle.decisions.specs.Run.{begun, oneMore, afterTurn}
 use Rattle.decisions.specs.Demand.{Held}
 use Rattle.decisions.specs.Machine.{Numerics, Play, movedOn, nextOf, heldOf, play, played, enough, stateOf, ended}
 use Rattle.decisions.specs.declared.State.{State}
@@ -54,18 +54,18 @@ steps limit s =
     }
 
 module _ (limit : ℕ) (tolerance : Float) (s : State) (a : Assembly) (e : Raw) where
-  turn-steps : Both (Stepped s) (Grown s) (turned limit tolerance s a e)
+  turn-steps : Both (Stepped s) (Grown s) (afterTurn limit tolerance s a e)
   turn-steps = turn-cases (Stepped s) (Grown s) limit tolerance s (steps limit s) a e
 
-  turn-grows : s .accepted ≤ stateOf (turned limit tolerance s a e) .accepted
+  turn-grows : s .accepted ≤ stateOf (afterTurn limit tolerance s a e) .accepted
   unfolding Grown
-  turn-grows = at (turned limit tolerance s a e) turn-steps
+  turn-grows = at (afterTurn limit tolerance s a e) turn-steps
     where
       at : (n : Next) → Both (Stepped s) (Grown s) n → s .accepted ≤ stateOf n .accepted
       at (next.On t) h = h .grown
       at (next.Over t w) h = h
 
-  module _ (t : State) (q : turned limit tolerance s a e ≡ next.On t) where
+  module _ (t : State) (q : afterTurn limit tolerance s a e ≡ next.On t) where
     stepped : Stepped s t
     stepped = subst (Both (Stepped s) (Grown s)) q turn-steps
 
@@ -108,7 +108,7 @@ module _ {X : Type 0} (m : Numerics X) (limit : ℕ) (tolerance : Float) where
   same-step : (first : X) (n : Next) (x : X) → Same first n x → Same first (nextOf m limit tolerance n x) (heldOf m limit tolerance n x)
   unfolding Same nextOf heldOf movedOn
   same-step first (next.On s) x h z =
-      let t = stateOf (turned limit tolerance s (m .assemble x) (m .attempt x (s .damping))) in
+      let t = stateOf (afterTurn limit tolerance s (m .assemble x) (m .attempt x (s .damping))) in
       let g : s .accepted ≤ t .accepted = turn-grows limit tolerance s (m .assemble x) (m .attempt x (s .damping)) in
       let a : s .accepted ≡ 0 = omega arith in
       let b : t .accepted ≤ s .accepted = omega arith in
@@ -124,20 +124,20 @@ module _ {X : Type 0} (m : Numerics X) (limit : ℕ) (tolerance : Float) where
   play-ends : (k : ℕ) (first : Float) (s : State) (x : X) → Live limit first s → enough limit ≤ k + s .solves → ended (play m limit tolerance k (next.On s) x .next) ≡ true
   unfolding play nextOf
   play-ends zero first s x h l = absurd (not-le-of-lt (live-solves limit first s h) (le-trans l (le-of-eq (zero-add (s .solves)))))
-  play-ends (suc k) first s x h l = at (turned limit tolerance s (m .assemble x) (m .attempt x (s .damping))) (λ t g b. play-ends k first t (heldOf m limit tolerance (next.On s) x) g b) refl
+  play-ends (suc k) first s x h l = at (afterTurn limit tolerance s (m .assemble x) (m .attempt x (s .damping))) (λ t g b. play-ends k first t (heldOf m limit tolerance (next.On s) x) g b) refl
     where
       y : X
       y = heldOf m limit tolerance (next.On s) x
 
       at : (n : Next) → ((t : State) → Live limit first t → enough limit ≤ k + t .solves → ended (play m limit tolerance k (next.On t) y .next) ≡ true)
-          → turned limit tolerance s (m .assemble x) (m .attempt x (s .damping)) ≡ n → ended (play m limit tolerance k n y .next) ≡ true
+          → afterTurn limit tolerance s (m .assemble x) (m .attempt x (s .damping)) ≡ n → ended (play m limit tolerance k n y .next) ≡ true
       at (next.On t) ih q =
           let o : t .solves ≡ s .solves + 1 = turn-one limit tolerance s (m .assemble x) (m .attempt x (s .damping)) t q first h in
           ih t (turn-live limit tolerance s (m .assemble x) (m .attempt x (s .damping)) t q first h) (omega arith)
       at (next.Over t e) ih q = ap (λ (p : Play X). ended (p .next)) (play-over k t e y)
 
   -- ---- the whole run, for a limit and a first damping that pass the checks
-  module _ (cost damping : Float) (x : X) (l : limit ≤ 1000) (f : T (fits binary32 damping)) (p : lt (num 0) damping ≡ true) (u : le damping most ≡ true) where
+  module _ (cost damping : Float) (x : X) (l : limit ≤ 1000) (f : T (fits binary32 damping)) (p : lt (num 0) damping ≡ true) (u : le damping lambdaMax ≡ true) where
     -- demand 3's bounds and its cost
     pub played-held : Held limit cost (stateOf (played m limit tolerance cost damping x .next))
     played-held =

@@ -21,7 +21,7 @@ use Rattle.decisions.specs.declared.End.the-variants as end
 use Rattle.decisions.specs.declared.Gate.the-variants as gate
 use Rattle.decisions.specs.declared.Next.{Next}
 use Rattle.decisions.specs.declared.Next.the-variants as next
-use Rattle.decisions.specs.Run.{begun, iterations, heard, stop, failing, accepting, rejecting, solved, assembled, passed, thenSolve, turned}
+use Rattle.decisions.specs.Run.{begun, iterations, heard, stop, failing, accepting, rejecting, solved, assembled, passed, thenSolve, afterTurn}
 use Rattle.decisions.specs.Machine.{Numerics, nextOf, heldOf, play, enough, played}
 
 -- Q holds of every refusal that one ends with
@@ -55,8 +55,8 @@ module _ (Q : Refusal → Type 0) where
     solved-ends s (outcome.Tried (trial.Accepted new)) = chosen _ _ _ (stopped _ _) (on _)
     solved-ends s (outcome.Tried (trial.Rejected r)) = chosen _ _ _ (stopped _ _) (chosen _ _ _ (stopped _ _) (on _))
 
-    turned-ends : (s : State) (a : Assembly) (e : Raw) → Assembles a → Ends (turned limit tolerance s a e)
-    unfolding turned passed assembled thenSolve if-then
+    turned-ends : (s : State) (a : Assembly) (e : Raw) → Assembles a → Ends (afterTurn limit tolerance s a e)
+    unfolding afterTurn passed assembled thenSolve if-then
     turned-ends s a e h = top (s .fresh) (leb limit (iterations s)) a h
       where
         over : (a : Assembly) → Assembles a → Ends (thenSolve (assembled a) limit tolerance s e)

@@ -6,8 +6,8 @@ use lib.Dec.{T, leb}
 use lib.Ieee.{Float, lt}
 use borrow.Author.Tests.{leb-false}
 use Rattle.numbers.specs.Notation.{if-then}
-use Rattle.decisions.specs.Damping.{increased, most}
-use Rattle.decisions.specs.Run.{relative, judged, heard, assembled, iterations, failing, accepting, rejecting, solved, thenSolve, passed, turned, afterFailed, afterSmall, afterAccepted, afterRejected}
+use Rattle.decisions.specs.Damping.{increased, lambdaMax}
+use Rattle.decisions.specs.Run.{relative, judged, heard, assembled, iterations, failing, accepting, rejecting, solved, thenSolve, passed, afterTurn, afterFailed, afterSmall, afterAccepted, afterRejected}
 use Rattle.decisions.specs.declared.State.{State}
 use Rattle.decisions.specs.declared.Trial.the-variants as trial
 use Rattle.decisions.specs.declared.Reason.the-variants as reason
@@ -35,12 +35,12 @@ Past limit s = s .fresh ≡ true → iterations s < limit
 -- the ways of a turn from s: the top stops it, or the solve fails, or its step is small, or its trial is accepted or rejected
 pub record Cases (P : State → Type 0) (Q : State → Type 0) (limit : ℕ) (s : State) : Type 0 where
   pub stopped : Q s
-  pub fail-on : Past limit s → lt most (increased (s .damping)) ≡ false → P (afterFailed s)
+  pub fail-on : Past limit s → lt lambdaMax (increased (s .damping)) ≡ false → P (afterFailed s)
   pub fail-over : Q (afterFailed s)
   pub small : Q (afterSmall s)
   pub accept-on : Past limit s → (new : Float) → lt new (s .cost) ≡ true → P (afterAccepted s new)
   pub accept-over : Past limit s → (new : Float) → lt new (s .cost) ≡ true → Q (afterAccepted s new)
-  pub reject-on : Past limit s → lt most (increased (s .damping)) ≡ false → iterations (afterRejected s) < limit → P (afterRejected s)
+  pub reject-on : Past limit s → lt lambdaMax (increased (s .damping)) ≡ false → iterations (afterRejected s) < limit → P (afterRejected s)
   pub reject-over : Past limit s → Q (afterRejected s)
 
 module _ (P : State → Type 0) (Q : State → Type 0) where
@@ -55,12 +55,12 @@ module _ (P : State → Type 0) (Q : State → Type 0) where
       rejects : Both P Q (rejecting s limit)
       unfolding rejecting
       rejects =
-          either (lt most (increased (s .damping))) _ _ (λ e. k .reject-over past)
+          either (lt lambdaMax (increased (s .damping))) _ _ (λ e. k .reject-over past)
           (λ e. either (leb limit (iterations (afterRejected s))) _ _ (λ l. k .reject-over past) (λ l. k .reject-on past e (leb-false limit (iterations (afterRejected s)) l)))
 
       fails : Both P Q (failing s)
       unfolding failing
-      fails = either (lt most (increased (s .damping))) _ _ (λ e. k .fail-over) (λ e. k .fail-on past e)
+      fails = either (lt lambdaMax (increased (s .damping))) _ _ (λ e. k .fail-over) (λ e. k .fail-on past e)
 
       accepts : (new : Float) → lt new (s .cost) ≡ true → Both P Q (accepting s tolerance new)
       unfolding accepting
@@ -87,8 +87,8 @@ module _ (P : State → Type 0) (Q : State → Type 0) where
     gates assembly.Flat e l = k .stopped
     gates assembly.Steep e l = solves (λ t. l) e
 
-    pub turn-cases : (a : Assembly) (e : Raw) → Both P Q (turned limit tolerance s a e)
-    unfolding turned thenSolve passed if-then
+    pub turn-cases : (a : Assembly) (e : Raw) → Both P Q (afterTurn limit tolerance s a e)
+    unfolding afterTurn thenSolve passed if-then
     turn-cases a e = at (s .fresh) refl (leb limit (iterations s)) refl
       where
         other : s .fresh ≡ false → Past limit s
@@ -102,12 +102,12 @@ module _ (P : State → Type 0) (Q : State → Type 0) where
 
 -- ---- a turn in two parts, as a loop takes it
 module _ (limit : ℕ) (tolerance : Float) (s : State) where
-  pub turned-stop : (a : Assembly) (e : Raw) (w : End) → passed limit s a ≡ gate.Stop w → turned limit tolerance s a e ≡ next.Over s w
-  unfolding turned thenSolve
+  pub turned-stop : (a : Assembly) (e : Raw) (w : End) → passed limit s a ≡ gate.Stop w → afterTurn limit tolerance s a e ≡ next.Over s w
+  unfolding afterTurn thenSolve
   turned-stop a e w q = rw q
 
-  pub turned-go : (a : Assembly) (e : Raw) → passed limit s a ≡ gate.Go → turned limit tolerance s a e ≡ solved s limit tolerance (heard (s .cost) e)
-  unfolding turned thenSolve
+  pub turned-go : (a : Assembly) (e : Raw) → passed limit s a ≡ gate.Go → afterTurn limit tolerance s a e ≡ solved s limit tolerance (heard (s .cost) e)
+  unfolding afterTurn thenSolve
   turned-go a e q = rw q
 
   -- where the same system is solved again, what an assembly comes to does not count
@@ -115,7 +115,7 @@ module _ (limit : ℕ) (tolerance : Float) (s : State) where
   unfolding passed if-then
   passed-again a f = rw f
 
-  pub turned-again : (a b : Assembly) (e : Raw) → s .fresh ≡ false → turned limit tolerance s a e ≡ turned limit tolerance s b e
+  pub turned-again : (a b : Assembly) (e : Raw) → s .fresh ≡ false → afterTurn limit tolerance s a e ≡ afterTurn limit tolerance s b e
   turned-again a b e f = turned-go a e (passed-again a f) ∙ sym (turned-go b e (passed-again b f))
 
   -- so a loop has to know it only where the system is to be assembled

@@ -8,7 +8,7 @@ use lib.Ieee.{Float, nan}
 use Rattle.numbers.specs.Notation.{if-then}
 use Rattle.numbers.specs.Walks.{table}
 use Rattle.numbers.specs.Refusals.{refusal}
-use Rattle.decisions.specs.Run.{turned, iterations, stop}
+use Rattle.decisions.specs.Run.{afterTurn, iterations, stop}
 use Rattle.decisions.specs.declared.Numerical.the-variants as numerical
 use Rattle.decisions.specs.declared.Assembly.the-variants as assembly
 use Rattle.decisions.specs.declared.Raw.the-variants as raw
@@ -40,12 +40,12 @@ settled limit (next.On s) = if-then (s .fresh && leb limit (iterations s)) (stop
 settled limit (next.Over s e) = next.Over s e
 
 -- One event more. An assembly's is passed over where none is due; before a solve's, an assembly that goes well is implied. What is over stays.
-unfoldable pub after : ℕ → Float → Next → Event → Next
-after limit tolerance (next.On s) (event.Assembled a) = if-then (s .fresh) (turned limit tolerance s a raw.Failed) (next.On s)
-after limit tolerance (next.On s) (event.Solved e) = turned limit tolerance s assembly.Steep e
-after limit tolerance (next.Over s e) v = next.Over s e
+unfoldable pub afterEvent : ℕ → Float → Next → Event → Next
+afterEvent limit tolerance (next.On s) (event.Assembled a) = if-then (s .fresh) (afterTurn limit tolerance s a raw.Failed) (next.On s)
+afterEvent limit tolerance (next.On s) (event.Solved e) = afterTurn limit tolerance s assembly.Steep e
+afterEvent limit tolerance (next.Over s e) v = next.Over s e
 
 -- the events in order
 unfoldable pub driven : ℕ → Float → Next → List Event → Next
 driven limit tolerance n [] = settled limit n
-driven limit tolerance n (v ∷ vs) = driven limit tolerance (after limit tolerance (settled limit n) v) vs
+driven limit tolerance n (v ∷ vs) = driven limit tolerance (afterEvent limit tolerance (settled limit n) v) vs

@@ -4,7 +4,7 @@ use mathlib.Core.Bool.{Bool, true, false}
 use lib.Dec.{ltb}
 use lib.Ieee.{Float}
 use Rattle.numbers.specs.Notation.{if-then}
-use Rattle.decisions.specs.Run.{turned, begun}
+use Rattle.decisions.specs.Run.{afterTurn, begun}
 use Rattle.decisions.specs.declared.State.{State}
 use Rattle.decisions.specs.declared.Assembly.{Assembly}
 use Rattle.decisions.specs.declared.Raw.{Raw}
@@ -35,11 +35,11 @@ movedOn s t y x = if-then (ltb (s .accepted) (t .accepted)) y x
 
 -- one turn: what comes next, and what is held then
 unfoldable pub nextOf : {X : Type 0} → Numerics X → ℕ → Float → Next → X → Next
-nextOf m limit tolerance (next.On s) x = turned limit tolerance s (m .assemble x) (m .attempt x (s .damping))
+nextOf m limit tolerance (next.On s) x = afterTurn limit tolerance s (m .assemble x) (m .attempt x (s .damping))
 nextOf m limit tolerance (next.Over s e) x = next.Over s e
 
 unfoldable pub heldOf : {X : Type 0} → Numerics X → ℕ → Float → Next → X → X
-heldOf m limit tolerance (next.On s) x = movedOn s (stateOf (turned limit tolerance s (m .assemble x) (m .attempt x (s .damping)))) (m .moved x (s .damping)) x
+heldOf m limit tolerance (next.On s) x = movedOn s (stateOf (afterTurn limit tolerance s (m .assemble x) (m .attempt x (s .damping)))) (m .moved x (s .damping)) x
 heldOf m limit tolerance (next.Over s e) x = x
 
 -- k turns: what has ended stays

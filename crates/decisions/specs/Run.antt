@@ -5,7 +5,7 @@ use lib.Dec.{eqb, leb}
 use lib.Ieee.{Float, lt}
 use Rattle.numbers.specs.Notation.{_⊟_, _⧄_, num, if-then}
 use Rattle.numbers.specs.Refusals.{refusal}
-use Rattle.decisions.specs.Damping.{increased, decreased, most}
+use Rattle.decisions.specs.Damping.{increased, decreased, lambdaMax}
 use Rattle.decisions.specs.declared.State.{State}
 use Rattle.decisions.specs.declared.Reason.the-variants as reason
 use Rattle.decisions.specs.declared.Trial.{Trial}
@@ -113,7 +113,7 @@ stop s w = next.Over s (end.Stopped w)
 
 -- failed: above 1e10 is refusal 22, else solve again
 unfoldable pub failing : State → Next
-failing s = if-then (lt most (increased (s .damping))) (next.Over (afterFailed s) (end.Refused (refusal 22 0))) (next.On (afterFailed s))
+failing s = if-then (lt lambdaMax (increased (s .damping))) (next.Over (afterFailed s) (end.Refused (refusal 22 0))) (next.On (afterFailed s))
 
 -- accepted: a relative drop below the tolerance has converged, else to the top
 unfoldable pub accepting : State → Float → Float → Next
@@ -122,7 +122,7 @@ accepting s tolerance new = if-then (lt (relative (s .cost) new) tolerance) (sto
 -- rejected: above 1e10 ends unconverged (Damping, named first), the limit reached likewise (Budget), else solve again
 unfoldable pub rejecting : State → ℕ → Next
 rejecting s limit =
-    if-then (lt most (increased (s .damping)))
+    if-then (lt lambdaMax (increased (s .damping)))
     (stop (afterRejected s) why.Damping)
     (if-then (leb limit (iterations (afterRejected s))) (stop (afterRejected s) why.Budget) (next.On (afterRejected s)))
 
@@ -149,5 +149,5 @@ thenSolve gate.Go limit tolerance s e = solved s limit tolerance (heard (s .cost
 thenSolve (gate.Stop w) limit tolerance s e = next.Over s w
 
 -- a turn: the top, then a solve
-unfoldable pub turned : ℕ → Float → State → Assembly → Raw → Next
-turned limit tolerance s a e = thenSolve (passed limit s a) limit tolerance s e
+unfoldable pub afterTurn : ℕ → Float → State → Assembly → Raw → Next
+afterTurn limit tolerance s a e = thenSolve (passed limit s a) limit tolerance s e

@@ -3,15 +3,16 @@
 ghost use mathlib.Core.Path.{_≡_};
 ghost use lib.Dec.{leb};
 ghost use Rattle.decisions.specs.Damping.{increased, decreased};
-ghost use Rattle.decisions.specs.Run.{judged, heard, relative, begun, iterations, oneMore, failing, accepting, rejecting, solved, assembled, passed, turned, stop, afterSmall};
-ghost use Rattle.decisions.specs.Driven.{eventOf, eventsOf, settled, after, driven};
+ghost use Rattle.decisions.specs.Run.{judged, heard, relative, begun, iterations, oneMore, failing, accepting, rejecting, solved};
+ghost use Rattle.decisions.specs.Run.{assembled, passed, afterTurn, stop, afterSmall};
+ghost use Rattle.decisions.specs.Driven.{eventOf, eventsOf, settled, afterEvent, driven};
 use numbers::Refusal;
 
 const LAMBDA_FACTOR: f32 = 10.0;
 
 const LAMBDA_MIN: f32 = 1e-10;
 
-const LAMBDA_MAX: f32 = 1e10;
+pub const LAMBDA_MAX: f32 = 1e10;
 
 // What the run carries by value. Its poses and its system stand in lent work.
 pub struct State {
@@ -303,7 +304,7 @@ pub fn pass_top(s: State, limit: u32, a: Assembly) -> Gate
 }
 
 pub fn turn(s: State, limit: u32, tolerance: f32, a: Assembly, e: Raw) -> Next
-    ensures { λ r. ⌜ r ≡ turned limit tolerance s a e ⌝ }
+    ensures { λ r. ⌜ r ≡ afterTurn limit tolerance s a e ⌝ }
 {
     let cost = s.cost;
     match pass_top(s, limit, a) {
@@ -358,7 +359,7 @@ pub fn settle(limit: u32, n: Next) -> Next
 
 // An assembly's event is passed over where none is due; before a solve's, an assembly that goes well is implied.
 pub fn after_event(limit: u32, tolerance: f32, n: Next, v: Event) -> Next
-    ensures { λ r. ⌜ r ≡ after limit tolerance n v ⌝ }
+    ensures { λ r. ⌜ r ≡ afterEvent limit tolerance n v ⌝ }
 {
     let Next::On(s) = n else {
         return n;

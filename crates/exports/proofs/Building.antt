@@ -11,27 +11,27 @@ use lib.Ieee.{Float}
 use Rattle.numbers.specs.Notation.{num}
 use Rattle.numbers.specs.Walks.{Ended, done, stopped}
 use Rattle.numbers.specs.declared.Refusal.{Refusal}
-use Rattle.numbers.specs.declared.Failure.{Failure}
 use Rattle.numbers.specs.declared.Failure.the-variants.{Numerical}
 use Rattle.numbers.proofs.Choices.{left}
 use Rattle.rotations.specs.declared.Pose.{Pose}
 use Rattle.graph.specs.Graph.{Links, linksOf, freeCount}
-use Rattle.graph.specs.Lent.{Input, graphOf, dofOf, poseAt, lentLinks}
-use Rattle.graph.specs.Table.{graphChecks}
+use Rattle.graph.specs.Lent.{dofOf, poseAt, lentLinks}
+use Rattle.checks.specs.Input.{Input, graphOf}
+use Rattle.checks.specs.Table.{graphChecks}
 use Rattle.graph.specs.declared.Edge.{Edge}
 use Rattle.graph.specs.declared.Manifold.{Manifold}
 use Rattle.graph.specs.declared.Manifold.the-variants.{Se3, Gravity}
-use Rattle.graph.specs.declared.Counts.{Counts}
-use Rattle.graph.specs.declared.Checked.the-variants as checked
-use Rattle.graph.specs.declared.Checks.{Checks}
-use Rattle.graph.proofs.Answers.{dof-most}
-use Rattle.graph.proofs.Passed.{PassedGraph, fit-graph}
-use Rattle.residual.specs.Retraction.{unitOf}
-use Rattle.solve.specs.Work.{need}
+use Rattle.checks.specs.declared.Counts.{Counts}
+use Rattle.checks.specs.declared.Checked.the-variants as checked
+use Rattle.checks.specs.declared.Checks.{Checks}
+use Rattle.graph.proofs.Degrees.{dof-most}
+use Rattle.checks.proofs.Passed.{PassedGraph, fit-graph}
+use Rattle.retraction.specs.Retraction.{unitOf}
+use Rattle.profile.specs.Layout.{need}
 use Rattle.assembly.specs.Assembly.{cleared, assembledEnds, assembledFrom, assembledOf}
 use Rattle.assembly.specs.declared.Assembled.{Assembled}
-use Rattle.assembly.specs.declared.Assembled.the-variants as assembled
 use Rattle.sparse_pgo.proofs.Slots.{links-same}
+use Rattle.telling.specs.Telling.{builtNumber}
 use Rattle.exports.specs.Exported.{assembling, systemOut, assembleFrom, systemOf}
 
 -- ---- scratch: its count is known without a look at it
@@ -63,26 +63,22 @@ module _ (m : Manifold) (n : ℕ) (l : Links Edge) (pose : ℕ → Pose) (w sys 
   none-left : drop (need n) w ≡ []
   none-left = drop-of-length-le w (le-of-eq e)
 
-  pub built : made ≡ assembled.Done → (v : List Float) → v ≡ last → (0, v) ≡ systemOut n w found
-  built q v ev = go found (sym said ∙ q) (ap (λ (z : Assembled × List Float). z .1) made-is)
-    where
-      go : (x : Ended (List Float)) → assembledFrom x .0 ≡ assembled.Done → last ≡ assembledFrom x .1 → (0, v) ≡ systemOut n w x
-      go (done s) b a = rw (none-left, append-nil) (ap (λ (z : List Float). (0, z)) (ev ∙ a))
-      go (stopped k why s) b a = let z : _≡_ {A = ℕ} 0 1 = cc in absurd (omega arith)
+  row-is : {r : ℕ} → r ≡ builtNumber made → r ≡ builtNumber (assembledFrom found .0)
+  row-is e = e ∙ ap builtNumber said
 
-  pub unbuilt : {k : ℕ} {why : Failure} → made ≡ assembled.Bad k why → (21, w) ≡ systemOut n w found
-  unbuilt {k} {why} q = go found (sym said ∙ q)
+  pub built : {r : ℕ} → r ≡ builtNumber made → r ≡ 0 → (v : List Float) → v ≡ last → (0, v) ≡ systemOut n w found
+  built {r} e z v ev = go found (row-is e) (ap (λ (x : Assembled × List Float). x .1) made-is)
     where
-      go : (x : Ended (List Float)) → assembledFrom x .0 ≡ assembled.Bad k why → (21, w) ≡ systemOut n w x
-      go (done s) b = let z : _≡_ {A = ℕ} 0 1 = cc in absurd (omega arith)
-      go (stopped j Numerical s) b = refl
+      go : (x : Ended (List Float)) → r ≡ builtNumber (assembledFrom x .0) → last ≡ assembledFrom x .1 → (0, v) ≡ systemOut n w x
+      go (done s) b a = rw (none-left, append-nil) (ap (λ (x : List Float). (0, x)) (ev ∙ a))
+      go (stopped k Numerical s) b a = absurd (omega arith)
 
-  pub never-short : made ≡ assembled.Short → (21, w) ≡ systemOut n w found
-  never-short q = absurd (go found (sym said ∙ q))
+  pub unbuilt : {r : ℕ} → r ≡ builtNumber made → (r ≡ 0 → ⊥) → (r, w) ≡ systemOut n w found
+  unbuilt {r} e z = go found (row-is e)
     where
-      go : (x : Ended (List Float)) → assembledFrom x .0 ≡ assembled.Short → ⊥
-      go (done s) b = let z : _≡_ {A = ℕ} 0 1 = cc in omega arith
-      go (stopped j why s) b = let z : _≡_ {A = ℕ} 0 1 = cc in omega arith
+      go : (x : Ended (List Float)) → r ≡ builtNumber (assembledFrom x .0) → (r, w) ≡ systemOut n w x
+      go (done s) b = absurd (z b)
+      go (stopped k why s) b = ap (λ (x : ℕ). (x, w)) b
 
 -- ---- over the first numbers of the work, the rest as found
 

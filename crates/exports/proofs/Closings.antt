@@ -1,20 +1,20 @@
--- What is told of a scan whose loops were closed, the ninth number behind the eight that were lent on, and a float's text in the lent bytes. Assumes nothing.
-use Prim.Native.Nat.{ℕ, _≤_, _<_}
+-- What is told of a scan whose loops were closed, and a float's text in the lent bytes. Assumes nothing.
+use Prim.Native.Nat.{ℕ, _≤_}
 use native.Mathlib.Omega.{arith}
 use mathlib.Core.Path.{_≡_, refl, sym, ap, _∙_}
-use mathlib.Core.Bool.{false, not, _||_}
-use mathlib.Core.List.{List, [], _∷_, _++_}
-use borrow.Author.Tests.{eqb-true, eq-eqb, not-false}
+use mathlib.Core.Bool.{true, _||_}
+use mathlib.Core.List.{List, _++_}
+use borrow.Author.Tests.{eqb-true, eq-eqb}
 use lib.Dec.{eqb}
-use lib.ListN.{length, getD, take, drop, set, length-append, length-set, drop-of-length-le, take-append-drop}
-use lib.Seq.{length-take-le, length-front, drop-cons, set-at, take-length}
+use lib.ListN.{length, take, drop, length-append, take-append-drop}
+use lib.Seq.{take-length}
 use lib.Ieee.{Float}
 use Rattle.numbers.specs.declared.Refusal.{Refusal}
 use Rattle.numbers.proofs.Choices.{taken}
 use Rattle.numbers.proofs.Tests.{and-first, and-second}
 use Rattle.graph.specs.declared.Manifold.{Manifold}
-use Rattle.graph.specs.declared.Settings.{Settings}
-use Rattle.sparse_pgo.specs.declared.Answer.the-variants as answer
+use Rattle.rows.specs.declared.Settings.{Settings}
+use Rattle.slices.specs.Slices.{copied}
 use Rattle.scans.specs.Scans.{Scan}
 use Rattle.pose_graph.specs.Closing.{loopsClosed}
 use Rattle.pose_graph.specs.declared.PgoConfig.{PgoConfig}
@@ -26,50 +26,34 @@ use Rattle.line.specs.FloatText.{floatText}
 use Rattle.line.specs.declared.Line.{Line}
 use Rattle.line.proofs.Lines.{shown-whole, used-whole}
 use Rattle.line.proofs.FloatSamples.{float-length}
-use Rattle.exports.specs.Exported.{flag, told, refusedEight}
-use Rattle.exports.specs.Closings.{LentScan, scanLists, gravityOf, closedMeasures, closedTold, closedWith, fitsClosing, textOut}
-
--- ---- nine numbers, of which eight were lent on
-
-module _ (a : List ℕ) (nine : length a ≡ 9) where
-  pub eight-fit : 8 ≤ length a
-  eight-fit = omega arith
-
-  pub eight-long : length (take 8 a) ≡ 8
-  eight-long = length-take-le 8 a eight-fit
-
-  ninth : (e : List ℕ) (x : ℕ) → length e ≡ 8 → set (e ++ drop 8 a) 8 x ≡ e ++ (x ∷ [])
-  ninth e x h =
-      let most : length a ≤ 9 = omega arith in
-      let d : drop 8 a ≡ getD a 8 0 ∷ [] = drop-cons a 8 0 (omega arith) ∙ ap (λ (z : List ℕ). getD a 8 0 ∷ z) (drop-of-length-le a most) in
-      ap (λ (z : List ℕ). set (e ++ z) 8 x) d ∙ set-at e (getD a 8 0) [] x 8 h
-
-  pub room-left : (e : List ℕ) → length e ≡ length (take 8 a) → 8 < length (e ++ drop 8 a)
-  room-left e h = let k = length-front a e 8 h in omega arith
-
-  pub nine-kept : (e : List ℕ) (x : ℕ) → length e ≡ length (take 8 a) → length (set (e ++ drop 8 a) 8 x) ≡ length a
-  nine-kept e x h = length-set (e ++ drop 8 a) 8 x ∙ length-front a e 8 h
-
-  pub ran-nine : (costs measures : List Float) {c : Closed} {x : PgoResult} {e : List ℕ} {cs ms : List Float} {u : ℕ}
-      → c ≡ closed.Ran x → (0, e, cs) ≡ told costs (answer.Joined (x .run)) → u ≡ flag (x .usable)
-      → ms ≡ closedMeasures measures (closed.Ran x)
-      → (0, set (e ++ drop 8 a) 8 u, cs, ms) ≡ closedTold costs measures c
-  ran-nine costs measures {c} {x} {e} {cs} {ms} {u} g t f m =
-      let eight = told costs (answer.Joined (x .run)) .1 in
-      ap (λ (z : ℕ × List ℕ × List Float). (0, set (z .1 ++ drop 8 a) 8 u, z .2, ms)) t
-      ∙ (rw (ninth eight u refl, g, f, m))
-
-  pub refused-nine : (costs measures : List Float) {c : Closed} {r : Refusal} {e : List ℕ} → c ≡ closed.Refused r → e ≡ refusedEight r
-      → (r .number, set (e ++ drop 8 a) 8 0, costs, measures) ≡ closedTold costs measures c
-  refused-nine costs measures {c} {r} g t = rw (t, ninth (refusedEight r) 0 refl, g)
+use Rattle.telling.specs.Telling.{joinedCosts, measuresFour}
+use Rattle.exports.specs.Closings.{LentScan, scanLists, gravityOf, closedNine, closedTold, closedWith, fitsClosing, textOut}
+use Rattle.exports.proofs.Copies.{laid}
 
 -- ---- a scan's loops closed
 
-pub fit-closing : (g a c m : ℕ) → not (fitsClosing g a c m) ≡ false → (a ≡ 9) × (c ≡ 2) × (m ≡ 4)
+pub fit-closing : (g a c m : ℕ) → fitsClosing g a c m ≡ true → (a ≡ 9) × (c ≡ 2) × (m ≡ 4)
 fit-closing g a c m h =
-    let all = and-second (eqb g 0 || eqb g 3) _ (not-false _ h) in
+    let all = and-second (eqb g 0 || eqb g 3) _ h in
     let two = and-second (eqb a 9) _ all in
     (eqb-true _ _ (and-first (eqb a 9) _ all), eqb-true _ _ (and-first (eqb c 2) _ two), eqb-true _ _ (and-second (eqb c 2) _ two))
+
+pub nine-long : (a : Closed) → length (closedNine a) ≡ 9
+nine-long (closed.Ran x) = refl
+nine-long (closed.Refused r) = refl
+
+-- nine numbers and, of a scan whose run was joined, costs and measures, each laid over what was found
+module _ (a : Closed) (found : List ℕ) (costs measures : List Float) {nine last : List ℕ}
+    (h : length found ≡ 9) (e : nine ≡ closedNine a) (p : last ≡ copied nine found) where
+  whole : last ≡ closedNine a
+  whole = laid (closedNine a) found e (h ∙ sym (nine-long a)) p
+
+  pub closed-ran : {x : PgoResult} {two c four m : List Float} → a ≡ closed.Ran x → length costs ≡ 2 → two ≡ joinedCosts (x .run) → c ≡ copied two costs
+      → length measures ≡ 4 → four ≡ measuresFour (x .measures) → m ≡ copied four measures → (0, last, c, m) ≡ closedTold costs measures a
+  closed-ran {x} g k t q k4 f s = rw (whole, laid (joinedCosts (x .run)) costs t k q, laid (measuresFour (x .measures)) measures f k4 s, g)
+
+  pub closed-refused : {r : Refusal} → a ≡ closed.Refused r → (r .number, last, costs, measures) ≡ closedTold costs measures a
+  closed-refused g = rw (whole, g)
 
 abbrev configOf : Float → Settings → Manifold → PgoConfig
 configOf weight set m = record { «loop_edge_weight» = weight; settings = set; manifold = m }

@@ -8,13 +8,14 @@ use Rattle.numbers.specs.Refusals.{refusal}
 use Rattle.numbers.specs.Walks.{Ended, done, stopped}
 use Rattle.numbers.specs.declared.Failure.the-variants.{Numerical}
 use Rattle.graph.specs.Graph.{linksOf, freeCount}
-use Rattle.graph.specs.Lent.{Input, graphOf, dofOf, poseAt}
-use Rattle.graph.specs.Table.{graphChecks}
-use Rattle.graph.specs.declared.Counts.{Counts}
-use Rattle.graph.specs.declared.Checked.{Checked}
-use Rattle.graph.specs.declared.Checked.the-variants as checked
-use Rattle.graph.proofs.Row26.{SomeAdrift, refused-26-graph}
-use Rattle.residual.specs.Retraction.{unitOf}
+use Rattle.graph.specs.Lent.{dofOf, poseAt}
+use Rattle.checks.specs.Input.{Input, graphOf}
+use Rattle.checks.specs.Table.{graphChecks}
+use Rattle.checks.specs.declared.Counts.{Counts}
+use Rattle.checks.specs.declared.Checked.{Checked}
+use Rattle.checks.specs.declared.Checked.the-variants as checked
+use Rattle.checks.proofs.Row26.{SomeAdrift, refused-26-graph}
+use Rattle.retraction.specs.Retraction.{unitOf}
 use Rattle.assembly.specs.Assembly.{assembledEnds}
 use Rattle.exports.specs.Exported.{systemOut, assembleFrom, systemOf}
 

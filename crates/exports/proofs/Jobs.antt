@@ -1,21 +1,36 @@
 -- What is told of a job that was read, and of one that was written, from the reader's and the writer's answer. Assumes nothing.
-use mathlib.Core.Path.{_≡_, sym, ap, _∙_}
+use mathlib.Core.Path.{_≡_, refl, sym, ap, _∙_}
 use mathlib.Core.List.{List}
 use Prim.Native.Nat.{ℕ}
 use lib.ListN.{length}
 use borrow.Author.Tests.{eq-eqb}
 use Rattle.numbers.proofs.Choices.{taken}
+use Rattle.slices.specs.Slices.{copied}
 use Rattle.job.specs.Format.{Job, Space, readInto, writtenInto}
 use Rattle.job.specs.declared.Read.{Read}
+use Rattle.job.specs.declared.Read.the-variants as read
 use Rattle.job.specs.declared.Written.{Written}
+use Rattle.job.specs.declared.Written.the-variants as written
+use Rattle.telling.specs.Telling.{readNumber, readAnswer, writtenNumber, writtenTwo}
 use Rattle.exports.specs.Jobs.{readTold, readOut, writeTold, writeOut}
+use Rattle.exports.proofs.Copies.{laid}
 
-pub read-told : (s : List ℕ) (l : Space) (a : List ℕ) {k : Space} {q v : Read} {n : ℕ} {eight : List ℕ}
-    → length a ≡ 8 → (q, k) ≡ readInto s l → q ≡ v → (n, k, eight) ≡ readTold (v, k) → (n, k, eight) ≡ readOut s l a
+pub read-long : (v : Read) → length (readAnswer v) ≡ 8
+read-long (read.Job t had) = refl
+read-long (read.Refused r) = refl
+
+pub written-long : (v : Written) → length (writtenTwo v) ≡ 2
+written-long (written.Bytes n) = refl
+written-long (written.Refused r) = refl
+
+pub read-told : (s : List ℕ) (l : Space) (a : List ℕ) {k : Space} {v : Read} {n : ℕ} {eight last : List ℕ}
+    → length a ≡ 8 → (v, k) ≡ readInto s l → eight ≡ readAnswer v → last ≡ copied eight a → n ≡ readNumber v → (n, k, last) ≡ readOut s l a
 unfolding readOut
-read-told s l a {k} h e g put = taken _ (eq-eqb _ _ h) (put ∙ ap (λ (z : Read). readTold (z, k)) (sym g) ∙ ap readTold e)
+read-told s l a {v = v} h e t p q =
+    taken _ (eq-eqb _ _ h) (rw (q, laid (readAnswer v) a t (h ∙ sym (read-long v)) p) (ap readTold e))
 
-pub written-told : (j : Job) (f a : List ℕ) {o : List ℕ} {q v : Written} {n : ℕ} {two : List ℕ}
-    → length a ≡ 2 → (q, o) ≡ writtenInto j f → q ≡ v → (n, o, two) ≡ writeTold (v, o) → (n, o, two) ≡ writeOut j f a
+pub written-told : (j : Job) (f a : List ℕ) {o : List ℕ} {v : Written} {n : ℕ} {two last : List ℕ}
+    → length a ≡ 2 → (v, o) ≡ writtenInto j f → two ≡ writtenTwo v → last ≡ copied two a → n ≡ writtenNumber v → (n, o, last) ≡ writeOut j f a
 unfolding writeOut
-written-told j f a {o} h e g put = taken _ (eq-eqb _ _ h) (put ∙ ap (λ (z : Written). writeTold (z, o)) (sym g) ∙ ap writeTold e)
+written-told j f a {v = v} h e t p q =
+    taken _ (eq-eqb _ _ h) (rw (q, laid (writtenTwo v) a t (h ∙ sym (written-long v)) p) (ap writeTold e))

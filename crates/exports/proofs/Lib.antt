@@ -1,3 +1,4 @@
+pub mod Copies
 pub mod Steps
 pub mod Telling
 pub mod Building

@@ -1,6 +1,6 @@
 -- A step of a pose as an array of six, and poses and edges of a list that holds one. Assumes nothing.
 use mathlib.Core.Path.{_≡_, refl}
-use mathlib.Core.List.{List, [], _∷_}
+use mathlib.Core.List.{List}
 use Prim.Native.Nat.{ℕ, _+_, _*_, _<_, _≤_}
 use native.Mathlib.Nat.{mul-le-mul-left}
 use native.Mathlib.Omega.{arith}
@@ -10,12 +10,9 @@ use Rattle.rotations.specs.declared.Pose.{Pose}
 use Rattle.graph.specs.Lent.{poseFrom, poseAt, edgeFrom, edgeAt}
 use Rattle.graph.specs.declared.Manifold.{Manifold}
 use Rattle.graph.specs.declared.Manifold.the-variants.{Se3, Gravity}
-use Rattle.residual.specs.Retraction.{retractSe3, centreOf, retractGravity, retractOf}
-use Rattle.solve.specs.Work.{need}
-use Rattle.exports.specs.Layers.{at, pose, edge}
-
-abbrev pub firstSix : List Float → List Float
-firstSix l = at l 0 ∷ at l 1 ∷ at l 2 ∷ at l 3 ∷ at l 4 ∷ at l 5 ∷ []
+use Rattle.retraction.specs.Retraction.{retractSe3, centreOf, retractGravity, retractOf}
+use Rattle.profile.specs.Layout.{need}
+use Rattle.exports.specs.Layers.{firstSix, pose, edge}
 
 pub first-six-do : (m : Manifold) (p : Pose) (l : List Float) → retractOf m p (firstSix l) ≡ retractOf m p l
 unfolding retractOf retractSe3 retractGravity centreOf every

@@ -1,16 +1,22 @@
 -- What is told of a run, and that the counts of the decisions fit. Assumes nothing.
-use mathlib.Core.Path.{_≡_, ap, _∙_}
+use mathlib.Core.Path.{_≡_, refl, sym, ap, _∙_}
+use mathlib.Core.Bool.{true}
 use mathlib.Core.List.{List}
 use Prim.Native.Nat.{ℕ, _<_}
 use native.Mathlib.Omega.{arith}
-use lib.Dec.{T}
+use borrow.Author.Tests.{eqb-true}
+use lib.Dec.{T, eqb}
+use lib.ListN.{length}
 use lib.Ieee.{Float, binary32, fits}
 use Rattle.numbers.specs.Refusals.{verdict}
 use Rattle.numbers.specs.declared.Verdict.the-variants.{Fine}
-use Rattle.graph.specs.Lent.{Input}
-use Rattle.graph.specs.Table.{settingRows}
-use Rattle.graph.specs.declared.Settings.{Settings}
-use Rattle.graph.proofs.Passed.{passed-settings}
+use Rattle.numbers.specs.declared.Refusal.{Refusal}
+use Rattle.numbers.proofs.Tests.{and-first, and-second}
+use Rattle.slices.specs.Slices.{copied}
+use Rattle.checks.specs.Input.{Input}
+use Rattle.rows.specs.Tests.{settingRows}
+use Rattle.rows.specs.declared.Settings.{Settings}
+use Rattle.checks.proofs.Passed.{passed-settings}
 use Rattle.decisions.specs.Run.{iterations, begun}
 use Rattle.decisions.specs.Driven.{driven}
 use Rattle.decisions.specs.Machine.{stateOf}
@@ -19,8 +25,35 @@ use Rattle.decisions.specs.declared.Next.the-variants as next
 use Rattle.decisions.proofs.Bounds.{demand-three}
 use Rattle.sparse_pgo.specs.Optimize.{optimized}
 use Rattle.sparse_pgo.specs.declared.Answer.{Answer}
+use Rattle.sparse_pgo.specs.declared.Answer.the-variants as answer
+use Rattle.sparse_pgo.specs.declared.Joined.{Joined}
 use Rattle.sparse_pgo.proofs.Looping.{not-above}
-use Rattle.exports.specs.Exported.{Lent, lists, told, ranWith}
+use Rattle.telling.specs.Telling.{joinedCosts, answerEight}
+use Rattle.exports.specs.Exported.{Lent, lists, told, fitsRun, ranWith, fitsDecide}
+use Rattle.exports.proofs.Copies.{laid}
+
+pub fit-run : (a c : ℕ) → fitsRun a c ≡ true → (a ≡ 8) × (c ≡ 2)
+fit-run a c h = (eqb-true _ _ (and-first (eqb a 8) _ h), eqb-true _ _ (and-second (eqb a 8) _ h))
+
+pub fit-decide : (a c : ℕ) (events : List ℕ) (prices : List Float) → fitsDecide a c events prices ≡ true → (a ≡ 8) × (c ≡ 2)
+fit-decide a c events prices h = (eqb-true _ _ (and-first (eqb a 8) _ h), eqb-true _ _ (and-first (eqb c 2) _ (and-second (eqb a 8) _ h)))
+
+pub eight-long : (a : Answer) → length (answerEight a) ≡ 8
+eight-long (answer.Joined j) = refl
+eight-long (answer.Refused r) = refl
+
+-- the eight numbers and, of a run that was joined, the costs, each laid over what was found
+module _ (a : Answer) (found : List ℕ) (costs : List Float) {eight last : List ℕ} (h : length found ≡ 8) (e : eight ≡ answerEight a)
+    (p : last ≡ copied eight found) where
+  whole : last ≡ answerEight a
+  whole = laid (answerEight a) found e (h ∙ sym (eight-long a)) p
+
+  pub told-joined : {j : Joined} {two c : List Float} → a ≡ answer.Joined j → length costs ≡ 2 → two ≡ joinedCosts j → c ≡ copied two costs
+      → (0, last, c) ≡ told costs a
+  told-joined {j} g k t q = rw (whole, laid (joinedCosts j) costs t k q, g)
+
+  pub told-refused : {r : Refusal} → a ≡ answer.Refused r → (r .number, last, costs) ≡ told costs a
+  told-refused g = rw (whole, g)
 
 pub ran-told : (i : Input) (l : Lent) {a : Answer} {w32 w64 out : List Float} {r : ℕ} {eight : List ℕ} {costs : List Float}
     → record { answer = a; work32 = w32; work64 = w64; out = out } ≡ optimized i (l .work32) (l .work64) (l .out)

@@ -2,13 +2,14 @@
 -- 4294967295 back, and nothing is changed. Definitions only.
 use Prim.Native.Nat.{ℕ}
 use mathlib.Core.Bool.{Bool, _&&_, _||_}
-use mathlib.Core.List.{List, [], _∷_, _++_}
+use mathlib.Core.List.{List, _++_}
 use lib.Dec.{eqb}
 use lib.ListN.{length, drop}
 use lib.Ieee.{Float}
 use Rattle.numbers.specs.Notation.{if-then}
 use Rattle.graph.specs.declared.Manifold.{Manifold}
 use Rattle.graph.specs.declared.Manifold.the-variants.{Se3, Gravity}
+use Rattle.rows.specs.declared.Settings.{Settings}
 use Rattle.sparse_pgo.specs.declared.Answer.{Answer}
 use Rattle.sparse_pgo.specs.declared.Answer.the-variants as answer
 use Rattle.scans.specs.Scans.{Scan}
@@ -17,8 +18,9 @@ use Rattle.pose_graph.specs.declared.PgoConfig.{PgoConfig}
 use Rattle.pose_graph.specs.declared.Closed.{Closed}
 use Rattle.pose_graph.specs.declared.Closed.the-variants as closed
 use Rattle.line.specs.FloatText.{floatText}
-use Rattle.exports.specs.Layers.{unfit, three}
-use Rattle.exports.specs.Exported.{flag, numberOf, eightOf, costsOf}
+use Rattle.telling.specs.Telling.{judgedNine, refusedNine, measuresFour}
+use Rattle.exports.specs.Layers.{unfitNumber, three}
+use Rattle.exports.specs.Exported.{numberOf, costsOf}
 
 -- ---- pgo_close_loops
 
@@ -45,20 +47,18 @@ abbrev pub runAnswer : Closed → Answer
 runAnswer (closed.Ran x) = answer.Joined (x .run)
 runAnswer (closed.Refused r) = answer.Refused r
 
-abbrev pub usableFlag : Closed → ℕ
-usableFlag (closed.Ran x) = flag (x .usable)
-usableFlag (closed.Refused r) = 0
+abbrev pub closedNine : Closed → List ℕ
+closedNine (closed.Ran x) = judgedNine (x .run) (x .usable)
+closedNine (closed.Refused r) = refusedNine r
 
 -- the four measures, as found where refused
 abbrev pub closedMeasures : List Float → Closed → List Float
-closedMeasures found (closed.Ran x) =
-    x .measures .«initial_cost» ∷ x .measures .«final_cost» ∷ x .measures .«new_loop_residual_before» ∷ x .measures .«new_loop_residual_after» ∷ []
+closedMeasures found (closed.Ran x) = measuresFour (x .measures)
 closedMeasures found (closed.Refused r) = found
 
 -- the number given back; the run's eight numbers, then whether it is usable; its costs; the measures
 abbrev pub closedTold : List Float → List Float → Closed → ℕ × List ℕ × List Float × List Float
-closedTold costs measures a =
-    (numberOf (runAnswer a), eightOf (runAnswer a) ++ (usableFlag a ∷ []), costsOf costs (runAnswer a), closedMeasures measures a)
+closedTold costs measures a = (numberOf (runAnswer a), closedNine a, costsOf costs (runAnswer a), closedMeasures measures a)
 
 abbrev pub closedWith : LentScan → Closing → ℕ × LentScan
 closedWith l c =
@@ -73,9 +73,13 @@ unfoldable pub closeOut : ℕ → PgoConfig → Scan → LentScan → ℕ × Len
 closeOut gravity c s l =
     if-then (fitsClosing gravity (length (l .answer)) (length (l .costs)) (length (l .measures)))
     (closedWith l (loopsClosed c s (l .work32) (l .work64) (l .original) (l .out)))
-    (unfit, l)
+    (unfitNumber, l)
+
+-- loops closed with such a weight, settings and gravity
+abbrev pub loopsOut : Float → Settings → List Float → Scan → LentScan → ℕ × LentScan
+loopsOut weight set g = closeOut (length g) (record { «loop_edge_weight» = weight; settings = set; manifold = gravityOf g })
 
 -- ---- pgo_float_text: how many bytes, and these at the start of the sixteen lent
 
 unfoldable pub textOut : Float → List ℕ → ℕ × List ℕ
-textOut x out = if-then (eqb (length out) 16) (length (floatText x), floatText x ++ drop (length (floatText x)) out) (unfit, out)
+textOut x out = if-then (eqb (length out) 16) (length (floatText x), floatText x ++ drop (length (floatText x)) out) (unfitNumber, out)

@@ -6,83 +6,78 @@ use mathlib.Core.List.{List, [], _∷_}
 use lib.Dec.{eqb}
 use lib.ListN.{length, getD}
 use lib.Ieee.{Float, nan}
-use Rattle.numbers.specs.Notation.{if-then}
+use Rattle.numbers.specs.Notation.{if-then, numberAt}
 use Rattle.rotations.specs.Rotation.{vec, product, inverse}
 use Rattle.rotations.specs.FromMatrix.{quatOfMatrix}
-use Rattle.rotations.specs.ExpLog.{expOf, logOf}
+use Rattle.exp_log.specs.ExpLog.{expOf, logOf}
 use Rattle.rotations.specs.declared.Vec3.{Vec3}
 use Rattle.rotations.specs.declared.Pose.{Pose}
 use Rattle.rotations.specs.declared.Mat3F32.{Mat3F32}
-use Rattle.rotations.specs.declared.QuatF32.{QuatF32}
 use Rattle.rotations.specs.declared.Transform.{Transform}
-use Rattle.rotations.specs.declared.Moved.{Moved}
-use Rattle.rotations.specs.declared.Moved.the-variants as moved
+use Rattle.exp_log.specs.declared.Moved.{Moved}
+use Rattle.exp_log.specs.declared.Moved.the-variants as moved
 use Rattle.pose_conversion.specs.declared.Restored.{Restored}
 use Rattle.pose_conversion.specs.declared.Restored.the-variants as restored
 use Rattle.graph.specs.Lent.{poseFrom, edgeFrom, numbersOf}
 use Rattle.graph.specs.declared.Edge.{Edge}
 use Rattle.graph.specs.declared.Manifold.the-variants.{Se3, Gravity}
 use Rattle.residual.specs.Residuals.{residualOf, sixOf}
-use Rattle.residual.specs.Retraction.{retractOf}
+use Rattle.retraction.specs.Retraction.{retractOf}
 use Rattle.residual.specs.declared.Residual.{Residual}
 use Rattle.residual.specs.declared.Residual.the-variants as residual
-use Rattle.solve.specs.Work.{need, answerOf, leaves}
+use Rattle.profile.specs.Layout.{need}
+use Rattle.solve.specs.Work.{solvedAs, leaves}
 use Rattle.solve.specs.declared.Solved.{Solved}
 use Rattle.solve.specs.declared.Solved.the-variants as solved
+use Rattle.telling.specs.Telling.{quatNumbers, transformNumbers}
 
-abbrev pub unfit : ℕ
-unfit = 4294967295
+abbrev pub unfitNumber : ℕ
+unfitNumber = 4294967295
 
-abbrev pub at : List Float → ℕ → Float
-at l j = getD l j nan
+abbrev pub firstSix : List Float → List Float
+firstSix l = numberAt l 0 ∷ numberAt l 1 ∷ numberAt l 2 ∷ numberAt l 3 ∷ numberAt l 4 ∷ numberAt l 5 ∷ []
 
 -- nine numbers by columns
 unfoldable pub matrixFrom : List Float → Mat3F32
 matrixFrom l = record {
-  x = record { x = at l 0; y = at l 1; z = at l 2 };
-  y = record { x = at l 3; y = at l 4; z = at l 5 };
-  z = record { x = at l 6; y = at l 7; z = at l 8 };
+  x = record { x = numberAt l 0; y = numberAt l 1; z = numberAt l 2 };
+  y = record { x = numberAt l 3; y = numberAt l 4; z = numberAt l 5 };
+  z = record { x = numberAt l 6; y = numberAt l 7; z = numberAt l 8 };
 }
-
-abbrev pub quatNumbers : QuatF32 → List Float
-quatNumbers q = q.x ∷ q.y ∷ q.z ∷ q.w ∷ []
 
 -- seven numbers: quaternion x, y, z, w, then translation
 unfoldable pub transformFrom : List Float → Transform
 transformFrom l = record {
-  q = record { x = at l 0; y = at l 1; z = at l 2; w = at l 3 };
-  t = record { x = at l 4; y = at l 5; z = at l 6 };
+  q = record { x = numberAt l 0; y = numberAt l 1; z = numberAt l 2; w = numberAt l 3 };
+  t = record { x = numberAt l 4; y = numberAt l 5; z = numberAt l 6 };
 }
 
-abbrev pub transformNumbers : Transform → List Float
-transformNumbers a = a.q .x ∷ a.q .y ∷ a.q .z ∷ a.q .w ∷ a.t .x ∷ a.t .y ∷ a.t .z ∷ []
-
 abbrev pub three : List Float → Vec3
-three l = vec (at l 0) (at l 1) (at l 2)
+three l = vec (numberAt l 0) (numberAt l 1) (numberAt l 2)
 
 -- a list of twelve numbers as a pose, of eight as an edge
 abbrev pub pose : List Float → Pose
-pose l = poseFrom (at l)
+pose l = poseFrom (numberAt l)
 
 abbrev pub edge : List Float → Edge
-edge l = edgeFrom (at l)
+edge l = edgeFrom (numberAt l)
 
 -- 0 and the new list where the lengths are right
 unfoldable pub quaternionOut : List Float → List Float → ℕ × List Float
 quaternionOut m out =
-    if-then (eqb (length m) 9 && eqb (length out) 4) (0, quatNumbers (quatOfMatrix (matrixFrom m))) (unfit, out)
+    if-then (eqb (length m) 9 && eqb (length out) 4) (0, quatNumbers (quatOfMatrix (matrixFrom m))) (unfitNumber, out)
 
 unfoldable pub productOut : List Float → List Float → List Float → ℕ × List Float
 productOut a b out =
     if-then (eqb (length a) 7 && (eqb (length b) 7 && eqb (length out) 7))
     (0, transformNumbers (product (transformFrom a) (transformFrom b)))
-    (unfit, out)
+    (unfitNumber, out)
 
 unfoldable pub inverseOut : List Float → List Float → ℕ × List Float
-inverseOut a out = if-then (eqb (length a) 7 && eqb (length out) 7) (0, transformNumbers (inverse (transformFrom a))) (unfit, out)
+inverseOut a out = if-then (eqb (length a) 7 && eqb (length out) 7) (0, transformNumbers (inverse (transformFrom a))) (unfitNumber, out)
 
 unfoldable pub logOut : List Float → List Float → ℕ × List Float
-logOut a out = if-then (eqb (length a) 7 && eqb (length out) 6) (0, sixOf (logOf (transformFrom a))) (unfit, out)
+logOut a out = if-then (eqb (length a) 7 && eqb (length out) 6) (0, sixOf (logOf (transformFrom a))) (unfitNumber, out)
 
 -- 1 where it fails, the output as found
 abbrev pub movedOut : List Float → Moved → ℕ × List Float
@@ -91,7 +86,8 @@ movedOut out moved.TooFar = (1, out)
 
 -- translation first, then the turn
 unfoldable pub expOut : List Float → List Float → ℕ × List Float
-expOut δ out = if-then (eqb (length δ) 6 && eqb (length out) 7) (movedOut out (expOf (three δ) (vec (at δ 3) (at δ 4) (at δ 5)))) (unfit, out)
+expOut δ out =
+    if-then (eqb (length δ) 6 && eqb (length out) 7) (movedOut out (expOf (three δ) (vec (numberAt δ 3) (numberAt δ 4) (numberAt δ 5)))) (unfitNumber, out)
 
 abbrev pub restoredOut : List Float → Restored → ℕ × List Float
 restoredOut out (restored.Into p) = (0, numbersOf p)
@@ -99,14 +95,14 @@ restoredOut out (restored.Bad why) = (1, out)
 
 unfoldable pub retractOut : List Float → List Float → List Float → ℕ × List Float
 retractOut p δ out =
-    if-then (eqb (length p) 12 && (eqb (length δ) 6 && eqb (length out) 12)) (restoredOut out (retractOf Se3 (pose p) δ)) (unfit, out)
+    if-then (eqb (length p) 12 && (eqb (length δ) 6 && eqb (length out) 12)) (restoredOut out (retractOf Se3 (pose p) δ)) (unfitNumber, out)
 
 -- g is taken as the unit vector, as given
 unfoldable pub retractGravityOut : List Float → List Float → List Float → List Float → ℕ × List Float
 retractGravityOut g p δ out =
     if-then (eqb (length g) 3 && (eqb (length p) 12 && (eqb (length δ) 4 && eqb (length out) 12)))
     (restoredOut out (retractOf (Gravity (three g)) (pose p) δ))
-    (unfit, out)
+    (unfitNumber, out)
 
 abbrev pub sixOut : List Float → Residual → ℕ × List Float
 sixOut out (residual.Six d) = (0, sixOf d)
@@ -116,14 +112,14 @@ unfoldable pub residualOut : List Float → List Float → List Float → List F
 residualOut a b e out =
     if-then (eqb (length a) 12 && (eqb (length b) 12 && (eqb (length e) 8 && eqb (length out) 6)))
     (sixOut out (residualOf (pose a) (pose b) (edge e)))
-    (unfit, out)
+    (unfitNumber, out)
 
 -- ---- pgo_solve: the work has exactly n (n + 3) numbers; 1 where it failed
 
 abbrev pub solvedOut : List Float → List Float → Solved → ℕ × List Float
 solvedOut w left solved.Step = (0, left)
 solvedOut w left solved.Failed = (1, left)
-solvedOut w left solved.Short = (unfit, w)
+solvedOut w left solved.Short = (unfitNumber, w)
 
 unfoldable pub solveOut : List Float → ℕ → Float → ℕ × List Float
-solveOut w n d = if-then (eqb (length w) (need n)) (solvedOut w (leaves w n d (answerOf w n d)) (answerOf w n d)) (unfit, w)
+solveOut w n d = if-then (eqb (length w) (need n)) (solvedOut w (leaves w n d (solvedAs w n d)) (solvedAs w n d)) (unfitNumber, w)

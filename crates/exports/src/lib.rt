@@ -1,119 +1,53 @@
 // The functions that a host program links: slices cross as pointer and length, numbers as themselves. A slice of another length than named gets
 // 4294967295 back, and nothing is changed; elsewhere 0 means done.
 ghost use mathlib.Core.Path.{_≡_};
-ghost use mathlib.Core.List.{[], _∷_};
 ghost use Prim.Native.Nat.{_+_, _*_, _<_, _≤_};
 ghost use lib.Dec.{eqb};
 ghost use lib.ListN.{length};
-ghost use Rattle.numbers.specs.Notation.{num, if-then};
+ghost use Rattle.numbers.specs.Notation.{num, if-then, numberAt};
 ghost use Rattle.numbers.specs.Numbers.{narrowed, root32, root64};
 ghost use Rattle.numbers.specs.Refusals.{verdict};
 ghost use Rattle.rotations.specs.Rotation.{vec};
-ghost use Rattle.graph.specs.Lent.{lent, dofOf, numbersOf};
-ghost use Rattle.graph.specs.Table.{settingRows};
-ghost use Rattle.residual.specs.Residuals.{sixOf};
-ghost use Rattle.solve.specs.Work.{need};
+ghost use Rattle.graph.specs.Lent.{dofOf};
+ghost use Rattle.rows.specs.Tests.{settingRows};
+ghost use Rattle.profile.specs.Layout.{need};
 ghost use Rattle.decisions.specs.Run.{iterations};
-ghost use Rattle.decisions.specs.Machine.{stateOf};
-ghost use Rattle.sparse_pgo.specs.Parts.{answerOf};
-ghost use Rattle.sparse_pgo.specs.Optimize.{optimized};
 ghost use Rattle.job.specs.Format.{space, jobOf};
 ghost use Rattle.scans.specs.Scans.{scan};
-ghost use Rattle.exports.specs.Closings.{scanLists, gravityOf, closedTold, closeOut, textOut};
-ghost use Rattle.exports.specs.Jobs.{readEight, readOut, writeOut};
-ghost use Rattle.exports.specs.Layers.{at, matrixFrom, transformFrom, quatNumbers, transformNumbers, three};
+ghost use Rattle.exports.specs.Closings.{closedNine, scanLists, gravityOf, closedTold, fitsClosing, loopsOut, textOut};
+ghost use Rattle.exports.specs.Jobs.{bits, readOut, writeOut};
+ghost use Rattle.exports.specs.Layers.{firstSix, matrixFrom, transformFrom, three};
 ghost use Rattle.exports.specs.Layers.{quaternionOut, productOut, inverseOut, logOut, expOut, retractOut, retractGravityOut, residualOut, solveOut};
-ghost use Rattle.exports.specs.Exported.{stopNumber, flag, place32, refusedEight, told, settings, lists, roomOf, exported};
-ghost use Rattle.exports.specs.Exported.{decidedAs, decideFrom, known, decided, assembling, builtOut, systemOf, assembleOut};
-use assembly::Assembled;
-use decisions::End;
+ghost use Rattle.exports.specs.Exported.{settings, told, lists, fitsRun, runOut, known, decisionFrom, fitsDecide, decided};
+ghost use Rattle.exports.specs.Exported.{assembling, builtOut, systemOf, assembleOut};
+use checks::Checked;
 use decisions::Next;
-use decisions::State;
-use decisions::Why;
-use graph::Checked;
+use exp_log::Moved;
 use graph::Manifold;
-use graph::Room;
-use graph::Settings;
-use job::Read;
 use job::SettingBits;
-use job::Tally;
-use job::Written;
-use numbers::Refusal;
 use numbers::Verdict;
 use pose_conversion::Restored;
 use pose_graph::Closed;
 use pose_graph::PgoConfig;
-use printable::Measures;
 use residual::Residual;
 use rotations::Mat3F32;
-use rotations::Moved;
-use rotations::Pose;
 use rotations::QuatF32;
 use rotations::Transform;
-use rotations::Twist;
 use rotations::Vec3;
 use rotations::Vec3F32;
+use rows::Room;
+use rows::Settings;
 use solve::Solved;
 use sparse_pgo::Answer;
 use sparse_pgo::Joined;
 
 const UNFIT: u32 = 4294967295;
 
-// ---- numbers in and out
-
-fn give32(to: &mut [f32], from: &[f32])
-    requires { ⌜ length (now to) ≡ length (now from) ⌝ }
-    ensures { λ _. ⌜ now (to .exit) ≡ now (from .entry) ⌝ }
-{
-    let mut i = 0usize;
-    while i < to.len() {
-        to[i] = from[i];
-        i += 1;
-    }
-}
-
-fn give64(to: &mut [f64], from: &[f64])
-    requires { ⌜ length (now to) ≡ length (now from) ⌝ }
-    ensures { λ _. ⌜ now (to .exit) ≡ now (from .entry) ⌝ }
-{
-    let mut i = 0usize;
-    while i < to.len() {
-        to[i] = from[i];
-        i += 1;
-    }
-}
-
-fn put_quaternion(out: &mut [f32], q: QuatF32)
-    requires { ⌜ length (now out) ≡ 4 ⌝ }
-    ensures { λ _. ⌜ now (out .exit) ≡ quatNumbers q ⌝ }
-{
-    give32(out, &[q.x, q.y, q.z, q.w]);
-}
-
-fn put_transform(out: &mut [f32], a: Transform)
-    requires { ⌜ length (now out) ≡ 7 ⌝ }
-    ensures { λ _. ⌜ now (out .exit) ≡ transformNumbers a ⌝ }
-{
-    give32(out, &[a.q.x, a.q.y, a.q.z, a.q.w, a.t.x, a.t.y, a.t.z]);
-}
-
-fn put_twist(out: &mut [f32], d: Twist)
-    requires { ⌜ length (now out) ≡ 6 ⌝ }
-    ensures { λ _. ⌜ now (out .exit) ≡ sixOf d ⌝ }
-{
-    give32(out, &[d.t.x, d.t.y, d.t.z, d.r.x, d.r.y, d.r.z]);
-}
-
-fn put_pose(out: &mut [f64], p: Pose)
-    requires { ⌜ length (now out) ≡ 12 ⌝ }
-    ensures { λ _. ⌜ now (out .exit) ≡ numbersOf p ⌝ }
-{
-    give64(out, &graph::numbers_of(p));
-}
+// ---- numbers in
 
 fn vec32_from(l: &[f32], j: usize) -> Vec3F32
     requires { ⌜ j < 16 ⌝ }
-    ensures { λ r. ⌜ r ≡ record { x = at (now (l .entry)) j; y = at (now (l .entry)) (j + 1); z = at (now (l .entry)) (j + 2) } ⌝ }
+    ensures { λ r. ⌜ r ≡ record { x = numberAt (now (l .entry)) j; y = numberAt (now (l .entry)) (j + 1); z = numberAt (now (l .entry)) (j + 2) } ⌝ }
 {
     Vec3F32 {
         x: numbers::at32(l, j),
@@ -125,7 +59,7 @@ fn vec32_from(l: &[f32], j: usize) -> Vec3F32
 // Three f32 as a vector of f64.
 fn widened_from(l: &[f32], j: usize) -> Vec3
     requires { ⌜ j < 16 ⌝ }
-    ensures { λ r. ⌜ r ≡ vec (at (now (l .entry)) j) (at (now (l .entry)) (j + 1)) (at (now (l .entry)) (j + 2)) ⌝ }
+    ensures { λ r. ⌜ r ≡ vec (numberAt (now (l .entry)) j) (numberAt (now (l .entry)) (j + 1)) (numberAt (now (l .entry)) (j + 2)) ⌝ }
 {
     pose_conversion::vec3_to_f64(vec32_from(l, j))
 }
@@ -167,7 +101,7 @@ fn transform_from(l: &[f32]) -> Transform
 
 // A step as `retract` takes it: of four numbers it looks at no more than four.
 fn step_from(l: &[f32]) -> [f32; 6]
-    ensures { λ r. ⌜ r ≡ at (now (l .entry)) 0 ∷ at (now (l .entry)) 1 ∷ at (now (l .entry)) 2 ∷ at (now (l .entry)) 3 ∷ at (now (l .entry)) 4 ∷ at (now (l .entry)) 5 ∷ [] ⌝ }
+    ensures { λ r. ⌜ r ≡ firstSix (now (l .entry)) ⌝ }
 {
     let a = vec32_from(l, 0);
     let b = vec32_from(l, 3);
@@ -204,7 +138,8 @@ pub extern "C" fn pgo_quaternion_of_matrix(m: &[f32], out: &mut [f32]) -> u32
     if !((m.len() == 9) & (out.len() == 4)) {
         return UNFIT;
     }
-    put_quaternion(out, rotations::quat_of_matrix(matrix_from(m)));
+    let q = rotations::quat_of_matrix(matrix_from(m));
+    slices::copy32(&telling::quat_numbers(q), out);
     0
 }
 
@@ -215,10 +150,8 @@ pub extern "C" fn pgo_product(a: &[f32], b: &[f32], out: &mut [f32]) -> u32
     if !((a.len() == 7) & ((b.len() == 7) & (out.len() == 7))) {
         return UNFIT;
     }
-    put_transform(
-        out,
-        rotations::product_of(transform_from(a), transform_from(b)),
-    );
+    let p = rotations::product_of(transform_from(a), transform_from(b));
+    slices::copy32(&telling::transform_numbers(p), out);
     0
 }
 
@@ -229,7 +162,8 @@ pub extern "C" fn pgo_inverse(a: &[f32], out: &mut [f32]) -> u32
     if !((a.len() == 7) & (out.len() == 7)) {
         return UNFIT;
     }
-    put_transform(out, rotations::inverse_of(transform_from(a)));
+    let p = rotations::inverse_of(transform_from(a));
+    slices::copy32(&telling::transform_numbers(p), out);
     0
 }
 
@@ -240,10 +174,10 @@ pub extern "C" fn pgo_exp(delta: &[f32], out: &mut [f32]) -> u32
     if !((delta.len() == 6) & (out.len() == 7)) {
         return UNFIT;
     }
-    let Moved::To(a) = rotations::exp(widened_from(delta, 0), widened_from(delta, 3)) else {
+    let Moved::To(a) = exp_log::exp(widened_from(delta, 0), widened_from(delta, 3)) else {
         return 1;
     };
-    put_transform(out, a);
+    slices::copy32(&telling::transform_numbers(a), out);
     0
 }
 
@@ -254,7 +188,8 @@ pub extern "C" fn pgo_log(t: &[f32], out: &mut [f32]) -> u32
     if !((t.len() == 7) & (out.len() == 6)) {
         return UNFIT;
     }
-    put_twist(out, rotations::log(transform_from(t)));
+    let d = exp_log::log(transform_from(t));
+    slices::copy32(&residual::six_of(d), out);
     0
 }
 
@@ -266,10 +201,10 @@ pub extern "C" fn pgo_retract(pose: &[f64], delta: &[f32], out: &mut [f64]) -> u
         return UNFIT;
     }
     let p = graph::pose_at(pose, 0);
-    let Restored::Into(p) = residual::retract(Manifold::Se3, p, step_from(delta)) else {
+    let Restored::Into(p) = retraction::retract(Manifold::Se3, p, step_from(delta)) else {
         return 1;
     };
-    put_pose(out, p);
+    slices::copy64(&graph::numbers_of(p), out);
     0
 }
 
@@ -288,10 +223,10 @@ pub extern "C" fn pgo_retract_with_gravity(
     }
     let m = Manifold::Gravity(vec_from(g));
     let p = graph::pose_at(pose, 0);
-    let Restored::Into(p) = residual::retract(m, p, step_from(delta)) else {
+    let Restored::Into(p) = retraction::retract(m, p, step_from(delta)) else {
         return 1;
     };
-    put_pose(out, p);
+    slices::copy64(&graph::numbers_of(p), out);
     0
 }
 
@@ -308,7 +243,7 @@ pub extern "C" fn pgo_residual(a: &[f64], b: &[f64], edge: &[f32], out: &mut [f3
     let Residual::Six(d) = residual::weighted_relative_residual(p, q, e) else {
         return 1;
     };
-    put_twist(out, d);
+    slices::copy32(&residual::six_of(d), out);
     0
 }
 
@@ -331,93 +266,28 @@ pub extern "C" fn pgo_solve(work: &mut [f32], n: u32, damping: f32) -> u32
     }
 }
 
-// ---- answers as numbers
+// ---- the runs
 
-fn give_counts(to: &mut [u32], from: &[u32])
-    requires { ⌜ length (now to) ≡ length (now from) ⌝ }
-    ensures { λ _. ⌜ now (to .exit) ≡ now (from .entry) ⌝ }
+fn run_fits(answer: usize, costs: usize) -> bool
+    ensures { λ r. ⌜ r ≡ fitsRun answer costs ⌝ }
 {
-    let mut i = 0usize;
-    while i < to.len() {
-        to[i] = from[i];
-        i += 1;
-    }
+    (answer == 8) & (costs == 2)
 }
 
-fn place_of(place: usize) -> u32
-    ensures { λ r. ⌜ r ≡ place32 place ⌝ }
-{
-    if place < 0x1_0000_0000 {
-        return place as u32;
-    }
-    4294967295
-}
-
-fn stop_number(w: Why) -> u32
-    ensures { λ r. ⌜ r ≡ stopNumber w ⌝ }
-{
-    match w {
-        Why::Budget => 1,
-        Why::Gradient => 2,
-        Why::Step => 3,
-        Why::Cost => 4,
-        Why::Damping => 5,
-    }
-}
-
-fn flag_of(b: bool) -> u32
-    ensures { λ r. ⌜ r ≡ flag b ⌝ }
-{
-    if b { 1 } else { 0 }
-}
-
-fn put_joined(answer: &mut [u32], costs: &mut [f32], j: Joined)
-    requires { ⌜ (length (now answer) ≡ 8) × (length (now costs) ≡ 2) ⌝ }
-    ensures { λ _. ⌜ (0, now (answer .exit), now (costs .exit)) ≡ told (now (costs .entry)) (Answer.Joined j) ⌝ }
-{
-    let why = j.why;
-    let stop = stop_number(why);
-    let converged = flag_of(j.converged);
-    give_counts(
-        answer,
-        &[
-            0,
-            0,
-            j.iterations,
-            converged,
-            j.accepted,
-            j.rejected,
-            j.failed,
-            stop,
-        ],
-    );
-    give32(costs, &[j.first_cost, j.last_cost]);
-}
-
-fn put_refused(answer: &mut [u32], r: Refusal)
-    requires { ⌜ length (now answer) ≡ 8 ⌝ }
-    ensures { λ _. ⌜ now (answer .exit) ≡ refusedEight r ⌝ }
-{
-    give_counts(answer, &[r.number, place_of(r.place), 0, 0, 0, 0, 0, 0]);
-}
-
+// The costs of a refusal stay as found.
 fn put_answer(answer: &mut [u32], costs: &mut [f32], a: Answer) -> u32
     requires { ⌜ (length (now answer) ≡ 8) × (length (now costs) ≡ 2) ⌝ }
     ensures { λ r. ⌜ (r, now (answer .exit), now (costs .exit)) ≡ told (now (costs .entry)) a ⌝ }
 {
+    slices::copy_counts(&telling::answer_eight(a), answer);
     match a {
         Answer::Joined(j) => {
-            put_joined(answer, costs, j);
+            slices::copy32(&telling::joined_costs(j), costs);
             0
         }
-        Answer::Refused(r) => {
-            put_refused(answer, r);
-            r.number
-        }
+        Answer::Refused(r) => r.number,
     }
 }
-
-// ---- the runs
 
 fn run(
     m: Manifold,
@@ -432,9 +302,11 @@ fn run(
     answer: &mut [u32],
     costs: &mut [f32],
 ) -> u32
-    ensures { λ r. ⌜ (r, lists (now (work32 .exit)) (now (work64 .exit)) (now (out .exit)) (now (answer .exit)) (now (costs .exit))) ≡ exported (lent m (now (poses .entry)) (now (ends .entry)) (now (edges .entry)) (now (fixed .entry)) set (roomOf (lists (now (work32 .entry)) (now (work64 .entry)) (now (out .entry)) (now (answer .entry)) (now (costs .entry))))) (lists (now (work32 .entry)) (now (work64 .entry)) (now (out .entry)) (now (answer .entry)) (now (costs .entry))) ⌝ }
+    ensures { λ r. ⌜ (r, lists (now (work32 .exit)) (now (work64 .exit)) (now (out .exit)) (now (answer .exit)) (now (costs .exit)))
+        ≡ runOut m (now (poses .entry)) (now (ends .entry)) (now (edges .entry)) (now (fixed .entry)) set
+        (lists (now (work32 .entry)) (now (work64 .entry)) (now (out .entry)) (now (answer .entry)) (now (costs .entry))) ⌝ }
 {
-    if !((answer.len() == 8) & (costs.len() == 2)) {
+    if !run_fits(answer.len(), costs.len()) {
         return UNFIT;
     }
     let a = sparse_pgo::sparse_pose_graph_optimize(
@@ -468,7 +340,10 @@ pub extern "C" fn pgo_optimize(
     answer: &mut [u32],
     costs: &mut [f32],
 ) -> u32
-    ensures { λ r. ⌜ (r, lists (now (work32 .exit)) (now (work64 .exit)) (now (out .exit)) (now (answer .exit)) (now (costs .exit))) ≡ exported (lent Manifold.Se3 (now (poses .entry)) (now (ends .entry)) (now (edges .entry)) (now (fixed .entry)) (settings limit «cost_tolerance» «gradient_tolerance» damping) (roomOf (lists (now (work32 .entry)) (now (work64 .entry)) (now (out .entry)) (now (answer .entry)) (now (costs .entry))))) (lists (now (work32 .entry)) (now (work64 .entry)) (now (out .entry)) (now (answer .entry)) (now (costs .entry))) ⌝ }
+    ensures { λ r. ⌜ (r, lists (now (work32 .exit)) (now (work64 .exit)) (now (out .exit)) (now (answer .exit)) (now (costs .exit)))
+        ≡ runOut Manifold.Se3 (now (poses .entry)) (now (ends .entry)) (now (edges .entry)) (now (fixed .entry))
+        (settings limit «cost_tolerance» «gradient_tolerance» damping)
+        (lists (now (work32 .entry)) (now (work64 .entry)) (now (out .entry)) (now (answer .entry)) (now (costs .entry))) ⌝ }
 {
     let set = Settings {
         limit,
@@ -511,7 +386,10 @@ pub extern "C" fn pgo_optimize_with_gravity(
     answer: &mut [u32],
     costs: &mut [f32],
 ) -> u32
-    ensures { λ r. ⌜ (r, lists (now (work32 .exit)) (now (work64 .exit)) (now (out .exit)) (now (answer .exit)) (now (costs .exit))) ≡ exported (lent (Manifold.Gravity (vec gx gy gz)) (now (poses .entry)) (now (ends .entry)) (now (edges .entry)) (now (fixed .entry)) (settings limit «cost_tolerance» «gradient_tolerance» damping) (roomOf (lists (now (work32 .entry)) (now (work64 .entry)) (now (out .entry)) (now (answer .entry)) (now (costs .entry))))) (lists (now (work32 .entry)) (now (work64 .entry)) (now (out .entry)) (now (answer .entry)) (now (costs .entry))) ⌝ }
+    ensures { λ r. ⌜ (r, lists (now (work32 .exit)) (now (work64 .exit)) (now (out .exit)) (now (answer .exit)) (now (costs .exit)))
+        ≡ runOut (Manifold.Gravity (vec gx gy gz)) (now (poses .entry)) (now (ends .entry)) (now (edges .entry)) (now (fixed .entry))
+        (settings limit «cost_tolerance» «gradient_tolerance» damping)
+        (lists (now (work32 .entry)) (now (work64 .entry)) (now (out .entry)) (now (answer .entry)) (now (costs .entry))) ⌝ }
 {
     let set = Settings {
         limit,
@@ -541,47 +419,19 @@ pub extern "C" fn pgo_optimize_with_gravity(
 
 // ---- the decisions over a prepared list
 
-fn answer_from(first: f32, s: State, e: End) -> Answer
-    requires { ⌜ iterations s < 4294967296 ⌝ }
-    ensures { λ r. ⌜ r ≡ answerOf first (Next.Over s e) ⌝ }
-{
-    match e {
-        End::Refused(r) => Answer::Refused(r),
-        End::Stopped(w) => Answer::Joined(Joined {
-            iterations: s.accepted + s.rejected,
-            converged: sparse_pgo::has_converged(w),
-            accepted: s.accepted,
-            rejected: s.rejected,
-            failed: s.failed,
-            first_cost: first,
-            last_cost: s.cost,
-            why: w,
-        }),
-    }
+// What the list of events leads to: it may end before the run does.
+enum Decided {
+    Unended,
+    Ended(Answer),
 }
 
-fn put_next(answer: &mut [u32], costs: &mut [f32], first: f32, n: Next) -> u32
-    requires { ⌜ (length (now answer) ≡ 8) × (length (now costs) ≡ 2) × (iterations (stateOf n) < 4294967296) ⌝ }
-    ensures { λ r. ⌜ (r, now (answer .exit), now (costs .exit)) ≡ decidedAs first (now (answer .entry)) (now (costs .entry)) n ⌝ }
+// Where the settings don't pass their checks it is over at once.
+fn decide(set: Settings, cost: f32, events: &[u32], prices: &[f32]) -> Decided
+    ensures { λ r. ⌜ r ≡ decisionFrom set cost (now (events .entry)) (now (prices .entry)) (verdict (settingRows set)) ⌝ }
 {
-    match n {
-        Next::On(_) => 1,
-        Next::Over(s, e) => put_answer(answer, costs, answer_from(first, s, e)),
+    if let Verdict::Refused(r) = rows::validate_settings(set) {
+        return Decided::Ended(Answer::Refused(r));
     }
-}
-
-// The decisions where the settings pass their checks.
-fn decide(
-    set: Settings,
-    cost: f32,
-    events: &[u32],
-    prices: &[f32],
-    answer: &mut [u32],
-    costs: &mut [f32],
-) -> u32
-    requires { ⌜ (length (now answer) ≡ 8) × (length (now costs) ≡ 2) × (verdict (settingRows set) ≡ Verdict.Fine) ⌝ }
-    ensures { λ r. ⌜ (r, now (answer .exit), now (costs .exit)) ≡ decideFrom set cost (now (events .entry)) (now (prices .entry)) (now (answer .entry)) (now (costs .entry)) Verdict.Fine ⌝ }
-{
     let n = decisions::drive(
         set.limit,
         set.cost_tolerance,
@@ -590,7 +440,10 @@ fn decide(
         events,
         prices,
     );
-    put_next(answer, costs, cost, n)
+    let Next::Over(s, e) = n else {
+        return Decided::Unended;
+    };
+    Decided::Ended(sparse_pgo::answer_of(cost, s, e, s.accepted + s.rejected))
 }
 
 // Whether all are events: 0 to 6.
@@ -606,6 +459,13 @@ fn known_events(events: &[u32]) -> bool
     good
 }
 
+fn decide_fits(answer: usize, costs: usize, events: &[u32], prices: &[f32]) -> bool
+    ensures { λ r. ⌜ r ≡ fitsDecide answer costs (now (events .entry)) (now (prices .entry)) ⌝ }
+{
+    let good = known_events(events);
+    (answer == 8) & ((costs == 2) & ((events.len() == prices.len()) & good))
+}
+
 #[no_mangle]
 pub extern "C" fn pgo_decide(
     limit: u32,
@@ -619,8 +479,7 @@ pub extern "C" fn pgo_decide(
 ) -> u32
     ensures { λ r. ⌜ (r, now (answer .exit), now (costs .exit)) ≡ decided (settings limit tolerance (num 0) damping) cost (now (events .entry)) (now (prices .entry)) (now (answer .entry)) (now (costs .entry)) ⌝ }
 {
-    let good = known_events(events);
-    if !((answer.len() == 8) & ((costs.len() == 2) & ((events.len() == prices.len()) & good))) {
+    if !decide_fits(answer.len(), costs.len(), events, prices) {
         return UNFIT;
     }
     let set = Settings {
@@ -629,11 +488,10 @@ pub extern "C" fn pgo_decide(
         gradient_tolerance: 0.0,
         damping,
     };
-    if let Verdict::Refused(r) = graph::validate_settings(set) {
-        put_refused(answer, r);
-        return r.number;
-    }
-    decide(set, cost, events, prices, answer, costs)
+    let Decided::Ended(a) = decide(set, cost, events, prices) else {
+        return 1;
+    };
+    put_answer(answer, costs, a)
 }
 
 // ---- an assembly alone
@@ -662,14 +520,12 @@ fn build_over(
         blocks,
         free,
     );
-    match made {
-        Assembled::Done => {
-            give32(work, &system[..count]);
-            0
-        }
-        Assembled::Bad { edge: _, why: _ } => 21,
-        Assembled::Short => 21,
+    let row = telling::built_number(made);
+    if row != 0 {
+        return row;
     }
+    slices::copy32(system, work);
+    0
 }
 
 // Scratch is cleared before it is used, and that takes time: so there are three sizes. The first two are those of an evening's fifty views, one of them fixed.
@@ -761,7 +617,7 @@ fn assemble(
         work64: 18446744073709551615,
         out: poses.len(),
     };
-    let checks = graph::validate_pose_graph(m, poses, ends, edges, fixed, room);
+    let checks = checks::validate_pose_graph(m, poses, ends, edges, fixed, room);
     let answer = checks.answer;
     let blocks = checks.blocks;
     match answer {
@@ -770,7 +626,7 @@ fn assemble(
             let n = graph::dof(m) * (c.free as usize);
             let count = n * (n + 3);
             build(
-                residual::unit_manifold(m),
+                retraction::unit_manifold(m),
                 poses,
                 ends,
                 edges,
@@ -813,25 +669,6 @@ pub extern "C" fn pgo_assemble(
 
 // ---- jobs
 
-fn put_read(answer: &mut [u32], t: SettingBits, had: Tally)
-    requires { ⌜ length (now answer) ≡ 8 ⌝ }
-    ensures { λ _. ⌜ now (answer .exit) ≡ readEight t had ⌝ }
-{
-    give_counts(
-        answer,
-        &[
-            t.limit,
-            t.cost_tolerance,
-            t.gradient_tolerance,
-            t.damping,
-            place_of(had.poses),
-            place_of(had.edges),
-            place_of(had.fixed),
-            0,
-        ],
-    );
-}
-
 // Floats cross as their bit patterns. answer: limit, cost tolerance, gradient tolerance, damping, poses, edges, fixed, 0; or number, place and zeros.
 #[no_mangle]
 pub extern "C" fn pgo_read_job(
@@ -842,21 +679,15 @@ pub extern "C" fn pgo_read_job(
     fixed: &mut [u32],
     answer: &mut [u32],
 ) -> u32
-    ensures { λ r. ⌜ (r, space (now (poses .exit)) (now (ends .exit)) (now (edges .exit)) (now (fixed .exit)), now (answer .exit)) ≡ readOut (now (bytes .entry)) (space (now (poses .entry)) (now (ends .entry)) (now (edges .entry)) (now (fixed .entry))) (now (answer .entry)) ⌝ }
+    ensures { λ r. ⌜ (r, space (now (poses .exit)) (now (ends .exit)) (now (edges .exit)) (now (fixed .exit)), now (answer .exit))
+        ≡ readOut (now (bytes .entry)) (space (now (poses .entry)) (now (ends .entry)) (now (edges .entry)) (now (fixed .entry))) (now (answer .entry)) ⌝ }
 {
     if answer.len() != 8 {
         return UNFIT;
     }
-    match job::read_job(bytes, poses, ends, edges, fixed) {
-        Read::Job(t, had) => {
-            put_read(answer, t, had);
-            0
-        }
-        Read::Refused(r) => {
-            put_refused(answer, r);
-            r.number
-        }
-    }
+    let v = job::read_job(bytes, poses, ends, edges, fixed);
+    slices::copy_counts(&telling::read_answer(v), answer);
+    telling::read_number(v)
 }
 
 // answer: bytes written, 0; or number, place.
@@ -873,7 +704,9 @@ pub extern "C" fn pgo_write_job(
     out: &mut [u8],
     answer: &mut [u32],
 ) -> u32
-    ensures { λ r. ⌜ (r, now (out .exit), now (answer .exit)) ≡ writeOut (jobOf record { limit = limit; «cost_tolerance» = «cost_tolerance»; «gradient_tolerance» = «gradient_tolerance»; damping = damping } (space (now (poses .entry)) (now (ends .entry)) (now (edges .entry)) (now (fixed .entry)))) (now (out .entry)) (now (answer .entry)) ⌝ }
+    ensures { λ r. ⌜ (r, now (out .exit), now (answer .exit))
+        ≡ writeOut (jobOf (bits limit «cost_tolerance» «gradient_tolerance» damping) (space (now (poses .entry)) (now (ends .entry)) (now (edges .entry)) (now (fixed .entry))))
+        (now (out .entry)) (now (answer .entry)) ⌝ }
 {
     if answer.len() != 2 {
         return UNFIT;
@@ -884,51 +717,42 @@ pub extern "C" fn pgo_write_job(
         gradient_tolerance,
         damping,
     };
-    match job::write_job(t, poses, ends, edges, fixed, out) {
-        Written::Bytes(n) => {
-            give_counts(answer, &[place_of(n), 0]);
-            0
-        }
-        Written::Refused(r) => {
-            give_counts(answer, &[r.number, place_of(r.place)]);
-            r.number
-        }
-    }
+    let v = job::write_job(t, poses, ends, edges, fixed, out);
+    slices::copy_counts(&telling::written_two(v), answer);
+    telling::written_number(v)
 }
 
 // ---- scans
 
-fn put_measures(to: &mut [f64], m: Measures)
-    requires { ⌜ length (now to) ≡ 4 ⌝ }
-    ensures { λ _. ⌜ now (to .exit) ≡ m .«initial_cost» ∷ m .«final_cost» ∷ m .«new_loop_residual_before» ∷ m .«new_loop_residual_after» ∷ [] ⌝ }
+// Gravity is no number or three.
+fn closing_fits(gravity: usize, answer: usize, costs: usize, measures: usize) -> bool
+    ensures { λ r. ⌜ r ≡ fitsClosing gravity answer costs measures ⌝ }
 {
-    give64(
-        to,
-        &[
-            m.initial_cost,
-            m.final_cost,
-            m.new_loop_residual_before,
-            m.new_loop_residual_after,
-        ],
-    );
+    ((gravity == 0) | (gravity == 3)) & ((answer == 9) & ((costs == 2) & (measures == 4)))
 }
 
+fn nine_of(c: Closed) -> [u32; 9]
+    ensures { λ r. ⌜ r ≡ closedNine c ⌝ }
+{
+    match c {
+        Closed::Ran(x) => telling::judged_nine(x.run, x.usable),
+        Closed::Refused(r) => telling::refused_nine(r),
+    }
+}
+
+// The costs and the measures of a refusal stay as found.
 fn put_closed(answer: &mut [u32], costs: &mut [f32], measures: &mut [f64], c: Closed) -> u32
     requires { ⌜ (length (now answer) ≡ 9) × (length (now costs) ≡ 2) × (length (now measures) ≡ 4) ⌝ }
     ensures { λ r. ⌜ (r, now (answer .exit), now (costs .exit), now (measures .exit)) ≡ closedTold (now (costs .entry)) (now (measures .entry)) c ⌝ }
 {
+    slices::copy_counts(&nine_of(c), answer);
     match c {
         Closed::Ran(x) => {
-            put_joined(&mut answer[..8], costs, x.run);
-            answer[8] = flag_of(x.usable);
-            put_measures(measures, x.measures);
+            slices::copy32(&telling::joined_costs(x.run), costs);
+            slices::copy64(&telling::measures_four(x.measures), measures);
             0
         }
-        Closed::Refused(r) => {
-            put_refused(&mut answer[..8], r);
-            answer[8] = 0;
-            r.number
-        }
+        Closed::Refused(r) => r.number,
     }
 }
 
@@ -964,14 +788,11 @@ pub extern "C" fn pgo_close_loops(
     measures: &mut [f64],
 ) -> u32
     ensures { λ r. ⌜ (r, scanLists (now (work32 .exit)) (now (work64 .exit)) (now (original .exit)) (now (out .exit)) (now (answer .exit)) (now (costs .exit)) (now (measures .exit)))
-        ≡ closeOut (length (now (gravity .entry)))
-        (record { «loop_edge_weight» = weight; settings = settings limit «cost_tolerance» «gradient_tolerance» damping; manifold = gravityOf (now (gravity .entry)) })
+        ≡ loopsOut weight (settings limit «cost_tolerance» «gradient_tolerance» damping) (now (gravity .entry))
         (scan (now (ids .entry)) (now (poses .entry)) (now (loops .entry)) (now («loop_poses» .entry)) weight)
         (scanLists (now (work32 .entry)) (now (work64 .entry)) (now (original .entry)) (now (out .entry)) (now (answer .entry)) (now (costs .entry)) (now (measures .entry))) ⌝ }
 {
-    let g = gravity.len();
-    if !(((g == 0) | (g == 3))
-        & ((answer.len() == 9) & ((costs.len() == 2) & (measures.len() == 4)))) {
+    if !closing_fits(gravity.len(), answer.len(), costs.len(), measures.len()) {
         return UNFIT;
     }
     let config = PgoConfig {

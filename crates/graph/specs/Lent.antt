@@ -14,8 +14,6 @@ use Rattle.graph.specs.declared.Slot.{Slot}
 use Rattle.graph.specs.declared.Slot.the-variants.{Block, Fixed}
 use Rattle.graph.specs.declared.Manifold.{Manifold}
 use Rattle.graph.specs.declared.Manifold.the-variants.{Se3, Gravity}
-use Rattle.graph.specs.declared.Settings.{Settings}
-use Rattle.graph.specs.declared.Room.{Room}
 use Rattle.graph.specs.Graph.{Graph, Links}
 
 -- degrees of freedom a pose
@@ -62,21 +60,6 @@ endA ends k = getD ends (k * 2) 0
 abbrev pub endB : List ℕ → ℕ → ℕ
 endB ends k = getD ends (k * 2 + 1) 0
 
--- the list names pose x; repeats count once
-abbrev pub names : List ℕ → ℕ → Bool
-names l x = some (λ k. eqb (getD l k 0) x) (length l)
-
-abbrev pub lentGraph : List Float → List ℕ → List Float → List ℕ → Graph Pose Edge
-lentGraph poses ends edges fixed = record {
-  poses = length poses / 12;
-  pose = poseAt poses;
-  edges = length ends / 2;
-  a = endA ends;
-  b = endB ends;
-  measured = edgeAt edges;
-  fixed = names fixed;
-}
-
 -- ---- the blocks in an array of 256, as the checks hand them on
 
 abbrev pub none : ℕ
@@ -89,24 +72,3 @@ slotIn blocks free x = let b = getD blocks x none in if-then (ltb b free) (Block
 -- the edges with the slots of such an array
 abbrev pub lentLinks : List ℕ → List Float → List ℕ → ℕ → Links Edge
 lentLinks ends edges blocks free = record { edges = length ends / 2; a = endA ends; b = endB ends; measured = edgeAt edges; slot = slotIn blocks free }
-
--- ---- everything that a run is given, and the lengths of what is lent to be written
-pub record Input : Type 0 where
-  pub manifold : Manifold
-  pub poses : List Float
-  pub ends : List ℕ
-  pub edges : List Float
-  pub fixed : List ℕ
-  pub settings : Settings
-  pub room : Room
-
-abbrev pub lent : Manifold → List Float → List ℕ → List Float → List ℕ → Settings → Room → Input
-lent m poses ends edges fixed settings room =
-    record { manifold = m; poses = poses; ends = ends; edges = edges; fixed = fixed; settings = settings; room = room }
-
--- settings of zeros, for the checks of a graph, which look at none
-abbrev pub unset : Settings
-unset = record { limit = 0; «cost_tolerance» = num 0; «gradient_tolerance» = num 0; damping = num 0 }
-
-abbrev pub graphOf : Input → Graph Pose Edge
-graphOf i = lentGraph (i .poses) (i .ends) (i .edges) (i .fixed)

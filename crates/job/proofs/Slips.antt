@@ -8,7 +8,7 @@ use Rattle.numbers.specs.Notation.{if-then}
 use Rattle.numbers.specs.Refusals.{refusal}
 use Rattle.numbers.specs.Walks.{table, strung}
 use Rattle.job.specs.declared.Tally.{Tally}
-use Rattle.graph.specs.Table.{unfit}
+use Rattle.rows.specs.Tests.{unfit}
 use Rattle.job.specs.declared.Read.the-variants as read
 use Rattle.job.specs.declared.Written.the-variants as written
 use Rattle.job.specs.Bytes.{valueAt, bytesOf, bytesFrom, pasted}

@@ -20,11 +20,10 @@ use Rattle.numbers.specs.Refusals.{refusal, fault, verdict}
 use Rattle.numbers.specs.declared.Verdict.{Verdict}
 use Rattle.numbers.specs.declared.Verdict.the-variants as verdict
 use Rattle.numbers.proofs.Reading.{row-at, row-fault}
-use Rattle.graph.specs.Table.{unfit}
+use Rattle.rows.specs.Tests.{unfit}
 use Rattle.job.proofs.Pasting.{pasted-more, pasted-set, length-pasted, length-strung}
-use Rattle.job.proofs.Encoding.{shifted, length-encoded, length-bytesOf, bytesOf-more, length-bytesFrom}
+use Rattle.job.proofs.Encoding.{shifted, length-encoded, length-bytesOf, bytesOf-more, length-bytesFrom, length-poses, length-edges, length-fixed}
 use Rattle.job.proofs.Encoding.{length-settingsRecord, length-poseRecord, length-edgeRecord, length-fixedRecord}
-use Rattle.job.proofs.Encoding.{length-poses, length-edges, length-fixed}
 
 -- one byte more
 pub byte-put : (i at x rest : ℕ) (l m : List ℕ) → at + i < length m → rest ≡ shifted i x → l ≡ pasted at (bytesOf i x) m →

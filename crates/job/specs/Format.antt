@@ -11,7 +11,7 @@ use Rattle.numbers.specs.Refusals.{refusal, Fault, fault, says, Row, row, verdi
 use Rattle.numbers.specs.declared.Refusal.{Refusal}
 use Rattle.numbers.specs.declared.Verdict.{Verdict}
 use Rattle.numbers.specs.declared.Verdict.the-variants as verdict
-use Rattle.graph.specs.Table.{unfit}
+use Rattle.rows.specs.Tests.{unfit}
 use Rattle.job.specs.Bytes.{valueAt, valuesAt, bytesOf, bytesFrom, pasted}
 use Rattle.job.specs.declared.Tally.{Tally}
 use Rattle.job.specs.declared.Cursor.{Cursor}

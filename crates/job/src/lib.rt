@@ -7,10 +7,9 @@ ghost use lib.ListN.{length};
 ghost use Rattle.numbers.specs.Refusals.{refusal, says};
 ghost use Rattle.numbers.specs.Walks.{strung};
 ghost use Rattle.job.specs.Bytes.{valueAt, valuesAt, bytesOf, bytesFrom, pasted};
-ghost use Rattle.job.specs.Format.{settingsRecord, poseRecord, edgeRecord, fixedRecord, encoded, sizeOf};
+ghost use Rattle.job.specs.Format.{settingsRecord, poseRecord, edgeRecord, fixedRecord, encoded, sizeOf, scannedAs, IsTaken, taking, filledBy};
 ghost use Rattle.job.specs.Format.{isRecord, mayFollow, isFull, faultOf, endFaults, closed, one, counted, stepOf, CursorIn};
 ghost use Rattle.job.specs.Format.{start as Format·start, reading, settingsFrom, settingNumbers, jobOf, tallyOf, space, roomIn, readInto, writtenInto};
-ghost use Rattle.job.specs.Format.{scannedAs, IsTaken, taking, filledBy};
 use numbers::Refusal;
 use numbers::Verdict;
 

@@ -14,18 +14,19 @@ use Rattle.numbers.specs.Notation.{num, if-then}
 use Rattle.numbers.specs.Walks.{Ended, done, stopped}
 use Rattle.numbers.proofs.Tables.{length-table}
 use Rattle.graph.specs.Graph.{Links}
-use Rattle.graph.specs.Lent.{Input}
-use Rattle.graph.specs.Table.{checks}
-use Rattle.graph.specs.declared.Checked.{Checked}
-use Rattle.graph.specs.declared.Checked.the-variants as checked
+use Rattle.checks.specs.Input.{Input}
+use Rattle.checks.specs.Table.{checks}
+use Rattle.checks.specs.declared.Checked.{Checked}
+use Rattle.checks.specs.declared.Checked.the-variants as checked
 use Rattle.graph.specs.declared.Edge.{Edge}
 use Rattle.graph.specs.declared.Manifold.{Manifold}
-use Rattle.graph.specs.declared.Settings.{Settings}
+use Rattle.rows.specs.declared.Settings.{Settings}
 use Rattle.decisions.specs.Machine.{movedOn, nextOf, heldOf, play}
 use Rattle.decisions.specs.declared.Next.{Next}
 use Rattle.decisions.specs.declared.Next.the-variants as next
 use Rattle.sparse_pgo.specs.Parts.{Parts, Found, step, noStep, numerics, stepTo, movedTo, Whole, wholeFrom, whole}
-use Rattle.sparse_pgo.specs.Numerics.{movedNumbers, partsOn}
+use Rattle.trials.specs.Trials.{movedNumbers}
+use Rattle.sparse_pgo.specs.Numerics.{partsOn}
 use Rattle.sparse_pgo.specs.Optimize.{ran, given, afterChecks, optimized}
 use Rattle.sparse_pgo.specs.declared.Answer.{Answer}
 use Rattle.sparse_pgo.specs.declared.Answer.the-variants as answer

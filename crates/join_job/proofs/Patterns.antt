@@ -12,9 +12,9 @@ use lib.Seq.{ext-getD, getD-take, length-take-le, length-front, take-at}
 use lib.Ieee.{Float, nan, inf, fin, Format, hid, ones, top, isNan, ofBits, ofFields, odd, div, binary32, binary64, nanBits, toBits, round}
 use lib.Ieee.Bits.{nanBits-is, nanBits-above}
 use Rattle.numbers.specs.Notation.{num, ratio}
-use Rattle.graph.specs.Lent.{lent}
+use Rattle.checks.specs.Input.{lent}
 use Rattle.graph.specs.declared.Manifold.the-variants.{Se3}
-use Rattle.graph.specs.declared.Settings.{Settings}
+use Rattle.rows.specs.declared.Settings.{Settings}
 use Rattle.sparse_pgo.specs.Optimize.{After, optimized}
 use Rattle.job.specs.declared.SettingBits.{SettingBits}
 use Rattle.job.specs.Format.{Space}

@@ -6,9 +6,10 @@ use mathlib.Core.List.{List, [], _++_, map}
 use lib.ListN.{length, replicate}
 use lib.Ieee.{Float, Format, binary32, binary64, ofBits, toBits}
 use Rattle.numbers.specs.Notation.{num}
-use Rattle.graph.specs.Lent.{lent, lentGraph, poseAt}
+use Rattle.graph.specs.Lent.{poseAt}
+use Rattle.checks.specs.Input.{lent, lentGraph}
 use Rattle.graph.specs.declared.Manifold.the-variants.{Se3}
-use Rattle.graph.specs.declared.Settings.{Settings}
+use Rattle.rows.specs.declared.Settings.{Settings}
 use Rattle.sparse_pgo.specs.Optimize.{After, optimized}
 use Rattle.sparse_pgo.specs.declared.Joined.{Joined}
 use Rattle.sparse_pgo.specs.declared.Answer.{Answer}

@@ -14,7 +14,6 @@ ghost use Rattle.line.specs.FloatText.{floatText};
 ghost use Rattle.join_job.specs.Joining.{floats, patterns, settingsAs, ranOver, runOf, printableOf, judgedOver, judgedOf, joinedWith, joinedInto};
 ghost use Rattle.join_job.specs.Joining.{reportOf, reportText, printableText, secondText, smallRoom, fullRoom};
 use graph::Manifold;
-use graph::Settings;
 use job::Read;
 use job::SettingBits;
 use job::Tally;
@@ -22,6 +21,7 @@ use job::Written;
 use line::Line;
 use numbers::Refusal;
 use printable::Printable;
+use rows::Settings;
 use sparse_pgo::Answer;
 use sparse_pgo::Joined;
 

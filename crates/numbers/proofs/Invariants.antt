@@ -6,7 +6,7 @@ use Prim.Native.Nat.{ℕ, zero, suc, _<_}
 use native.Mathlib.Omega.{arith}
 use Rattle.numbers.specs.declared.Went.{Went}
 use Rattle.numbers.specs.declared.Went.the-variants.{Well, Bad}
-use Rattle.numbers.specs.Walks.{Ended, done, stopped, turn, next, each, well, only, andThen}
+use Rattle.numbers.specs.Walks.{Ended, done, stopped, turn, stepOn, each, well, only, andThen}
 
 -- ---- two rows
 module _ {S : Type 0} (P Q : S → S → Type 0) where
@@ -34,7 +34,7 @@ module _ {S : Type 0} (P Q : S → S → Type 0) where
   each-abreast f g zero s t h p = p
   each-abreast f g (suc n) s t h p = go (each f n s) (each g n t) (each-abreast f g n s t (λ k l. h k (omega arith)) p)
     where
-      go : (x y : Ended S) → Abreast x y → Abreast (next x n f) (next y n g)
+      go : (x y : Ended S) → Abreast x y → Abreast (stepOn x n f) (stepOn y n g)
       go (done s) (done t) p = turn-abreast n (f n s) (g n t) (h n (omega arith) s t p)
       go (stopped k why s) (stopped i because t) q = q
       go (done s) (stopped i because t) z = absurd z

@@ -43,7 +43,7 @@ module _ {A : Type 0} (d : A) where
             r;
       }
 
-  from-start : {f : ℕ → A} {l₀ l : List A} {i : ℕ} → Laid f 0 l₀ l i → (k : ℕ) → k < i → getD l k d ≡ f k
+  pub from-start : {f : ℕ → A} {l₀ l : List A} {i : ℕ} → Laid f 0 l₀ l i → (k : ℕ) → k < i → getD l k d ≡ f k
   from-start {f} {l₀} {l} h k q = subst (λ (x : ℕ). getD l x d ≡ f k) (zero-add k) (h .inside k q)
 
   -- a whole list, laid from another or with one value
@@ -64,40 +64,3 @@ module _ {A : Type 0} (d : A) where
       go : (k : ℕ) → k < n → (b : Bool) → (b ≡ true → k < m) → (b ≡ false → m ≤ k) → getD l k d ≡ if-then b (f k) z
       go k q true y _ = let r : k < m = y refl in from-start h k (omega arith)
       go k q false _ y = let r : m ≤ k = y refl in h .outside k (inr (omega arith)) ∙ getD-replicate n k z d q
-
-  -- laid from another as far as both go
-  pub laid-copied : (m : List A) {l₀ l : List A} {i : ℕ} → Laid (λ k. getD m k d) 0 l₀ l i → i ≡ min (length l₀) (length m)
-      → l ≡ take (length l₀) m ++ drop (length m) l₀
-  laid-copied m {l₀} {l} {i} h e =
-      ext-getD d l (take (length l₀) m ++ drop (length m) l₀) (h .len ∙ sym long) (λ k q. let s = h .len in at k (omega arith) (ltb k (length m)) refl)
-    where
-      front : length (take (length l₀) m) ≡ min (length l₀) (length m)
-      front = length-take (length l₀) m
-
-      long : length (take (length l₀) m ++ drop (length m) l₀) ≡ length l₀
-      long =
-          let a = min-le-left (length l₀) (length m) in
-          let b = sub-add-min-cancel (length l₀) (length m) in
-          simp (length-append, length-take, length-drop) (omega arith)
-
-      at : (k : ℕ) → k < length l₀ → (b : Bool) → ltb k (length m) ≡ b → getD l k d ≡ getD (take (length l₀) m ++ drop (length m) l₀) k d
-      at k q true y =
-          let r : k < length m = ltb-true k (length m) y in
-          let low : k < min (length l₀) (length m) = le-min q r in
-          let t : k < length (take (length l₀) m) = rw front low in
-          from-start h k (rw e low) ∙ sym (List·getD-append (take (length l₀) m) (drop (length m) l₀) d k t ∙ getD-take (length l₀) m k d q)
-      at k q false y =
-          let r : length m ≤ k = ltb-false k (length m) y in
-          let z : min (length l₀) (length m) ≡ length m = min-eq-right (omega arith) in
-          let w : length (take (length l₀) m) ≡ length m = front ∙ z in
-          let past : i ≤ k = rw (e, z) r in
-          let split : length (take (length l₀) m) + (k - length m) ≡ k = omega arith in
-          let there : length m + (k - length m) ≡ k = omega arith in
-          h .outside k (inr (omega arith))
-          ∙ sym (ap (λ (x : ℕ). getD (take (length l₀) m ++ drop (length m) l₀) x d) (sym split)
-          ∙ getD-append-add (take (length l₀) m) (drop (length m) l₀) (k - length m) d ∙ getD-drop (length m) l₀ (k - length m) d
-          ∙ ap (λ (x : ℕ). getD l₀ x d) there)
-
--- a copy between lists of one length is the other list
-pub copied-whole : {A : Type 0} (m l : List A) → length l ≡ length m → take (length l) m ++ drop (length m) l ≡ m
-copied-whole m l e = rw (e, take-length m) (ap (λ x. m ++ x) (drop-of-length-le l (le-of-eq e)) ∙ append-nil m)

@@ -26,3 +26,4 @@ pub mod RootServes
 pub mod Bounded
 pub mod Own
 pub mod Strung
+pub mod Steps

@@ -5,7 +5,7 @@ use Prim.Native.Nat.{ℕ, zero, suc, _+_, _*_, _<_}
 use native.Mathlib.Nat.{add-zero, add-suc, zero-mul, suc-mul}
 use native.Mathlib.Omega.{arith}
 use Rattle.numbers.specs.Notation.{if-then}
-use Rattle.numbers.specs.Walks.{Ended, done, stopped, every, turn, next, each, well, andThen}
+use Rattle.numbers.specs.Walks.{Ended, done, stopped, every, turn, stepOn, each, well, andThen}
 use Rattle.numbers.specs.declared.Failure.the-variants.{Numerical}
 use Rattle.numbers.specs.declared.Went.{Went}
 use Rattle.numbers.specs.declared.Went.the-variants.{Well, Bad}
@@ -19,7 +19,7 @@ module _ {S : Type 0} where
   unfolding each andThen
   each-then f n s = go (each f n s)
     where
-      go : (e : Ended S) → well (next e n f) ≡ andThen (well e) (f n)
+      go : (e : Ended S) → well (stepOn e n f) ≡ andThen (well e) (f n)
       go (done t) = well-turn n (f n t)
       go (stopped k why t) = refl
 

@@ -14,7 +14,7 @@ use Rattle.numbers.specs.declared.Failure.{Failure}
 use Rattle.numbers.specs.declared.Went.{Went}
 use Rattle.numbers.specs.declared.Went.the-variants.{Well, Bad}
 use Rattle.numbers.proofs.Tests.{and-first, and-second}
-use Rattle.numbers.specs.Walks.{some, every, count, sumOf, Ended, done, stopped, turn, next, each, well, andThen}
+use Rattle.numbers.specs.Walks.{some, every, count, sumOf, Ended, done, stopped, turn, stepOn, each, well, andThen}
 
 pub sum-more : (k : Format) (f : ℕ → Float) (n : ℕ) (s : Float) → s ≡ sumOf k f n → add k s (f n) ≡ sumOf k f (n + 1)
 unfolding sumOf
@@ -185,7 +185,7 @@ unfolding each
 each-ext f g zero s h = refl
 each-ext {S} f g (suc n) s h = rw (each-ext f g n s (λ k l. h k (omega arith))) (go (each g n s))
   where
-    go : (e : Ended S) → next e n f ≡ next e n g
+    go : (e : Ended S) → stepOn e n f ≡ stepOn e n g
     go (done s) = ap (turn n) (h n (omega arith) s)
     go (stopped k why s) = refl
 
@@ -199,7 +199,7 @@ each-went {S} f (suc n) s t e k h = go (each f n s) (λ v q l. each-went f n s v
     last u (Well, v) q r = rw q
     last u (Bad why, v) q r = let z : _≡_ {A = ℕ} 0 1 = cc in absurd (omega arith)
 
-    go : (x : Ended S) → ((v : S) → each f n s ≡ done v → k < n → (u : S) × (f k u .0 ≡ Well)) → each f n s ≡ x → next x n f ≡ done t
+    go : (x : Ended S) → ((v : S) → each f n s ≡ done v → k < n → (u : S) × (f k u .0 ≡ Well)) → each f n s ≡ x → stepOn x n f ≡ done t
         → (u : S) × (f k u .0 ≡ Well)
     go (stopped j why v) ih q r = let z : _≡_ {A = ℕ} 0 1 = cc in absurd (omega arith)
     go (done v) ih q r = pick (ltb k n) refl

@@ -2,7 +2,9 @@
 -- Widening an f32 to an f64 changes no value, and is never written. Definitions only.
 use Prim.Native.Nat.{ℕ}
 use mathlib.Core.Bool.{Bool, true, false}
-use lib.Ieee.{Float, binary32, binary64, add, sub, mul, div, round}
+use mathlib.Core.List.{List}
+use lib.ListN.{getD}
+use lib.Ieee.{Float, binary32, binary64, add, sub, mul, div, round, nan}
 
 infixl 6 _⊕_ _⊖_ _⊞_ _⊟_
 infixl 7 _⊗_ _⊘_ _⊠_ _⧄_
@@ -45,6 +47,10 @@ ratio32 n d = round binary32 false n d
 -- the number n
 abbrev pub num : ℕ → Float
 num n = ratio n 1
+
+-- the j-th of lent numbers, a NaN past their end
+abbrev pub numberAt : List Float → ℕ → Float
+numberAt l j = getD l j nan
 
 -- the first where the test holds, else the second
 unfoldable pub if-then : {A : Type 0} → Bool → A → A → A

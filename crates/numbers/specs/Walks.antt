@@ -49,14 +49,14 @@ abbrev pub turn : {S : Type 0} → ℕ → Went × S → Ended S
 turn n (Well, s) = done s
 turn n (Bad why, s) = stopped n why s
 
-abbrev pub next : {S : Type 0} → Ended S → ℕ → (ℕ → S → Went × S) → Ended S
-next (done s) n f = turn n (f n s)
-next (stopped k why s) n f = stopped k why s
+abbrev pub stepOn : {S : Type 0} → Ended S → ℕ → (ℕ → S → Went × S) → Ended S
+stepOn (done s) n f = turn n (f n s)
+stepOn (stopped k why s) n f = stopped k why s
 
 -- f 0, f 1, .. f (n - 1), one after the other, up to the first that does not go well
 unfoldable pub each : {S : Type 0} → (ℕ → S → Went × S) → ℕ → S → Ended S
 each f zero s = done s
-each f (suc n) s = next (each f n s) n f
+each f (suc n) s = stepOn (each f n s) n f
 
 -- a row of steps as one step
 abbrev pub well : {S : Type 0} → Ended S → Went × S

@@ -1,16 +1,16 @@
 // Numbers: f64 to f32, f32 to f64, square roots, each worked out from sign, exponent and fraction bits; finite tests;
-// total reads and copies of lent numbers; and the answers that all crates above share.
+// total reads of lent numbers; and the answers that all crates above share.
 ghost use mathlib.Core.Path.{_≡_};
 ghost use mathlib.Core.Bool.{Bool, false, cond};
-ghost use mathlib.Core.List.{_++_};
 ghost use Prim.Native.Nat.{ℕ, suc, _+_, _-_, _*_, _/_, _%_, _^_, _≤_, _<_, min};
-ghost use lib.ListN.{getD, length, take, drop};
-ghost use lib.Ieee.{Format, binary32, binary64, prec, emax, low, ones, ofBits, ofFields, nan};
+ghost use lib.ListN.{getD};
+ghost use lib.Ieee.{Format, binary32, binary64, prec, emax, low, ones, ofBits, ofFields};
 ghost use lib.Ieee.Nearest.{closest};
 ghost use lib.Ieee.Exact.{HasValue};
 ghost use lib.Ieee.Scale.{finite};
 ghost use Rattle.numbers.specs.Numbers.{rounded, rooted, NearestRoot};
 ghost use Rattle.numbers.specs.Refusals.{orElse, ask};
+ghost use Rattle.numbers.specs.Notation.{numberAt};
 ghost use Rattle.numbers.specs.Walks.{mustBeFinite};
 
 // Why numbers can't be had: one is not finite, or lies past the reach of exp.
@@ -80,13 +80,13 @@ pub fn must_be_finite(x: f32) -> Went
 
 // The i-th of lent numbers, a NaN past their end.
 pub fn at64(xs: &[f64], i: usize) -> f64
-    ensures { λ r. ⌜ r ≡ getD (now (xs .entry)) i nan ⌝ }
+    ensures { λ r. ⌜ r ≡ numberAt (now (xs .entry)) i ⌝ }
 {
     if i < xs.len() { xs[i] } else { 0.0f64 / 0.0f64 }
 }
 
 pub fn at32(xs: &[f32], i: usize) -> f32
-    ensures { λ r. ⌜ r ≡ getD (now (xs .entry)) i nan ⌝ }
+    ensures { λ r. ⌜ r ≡ numberAt (now (xs .entry)) i ⌝ }
 {
     if i < xs.len() { xs[i] } else { 0.0f32 / 0.0f32 }
 }
@@ -115,18 +115,6 @@ pub fn smaller_of(a: usize, b: usize) -> usize
     ensures { λ r. ⌜ r ≡ min a b ⌝ }
 {
     if a < b { a } else { b }
-}
-
-// As many numbers as both have.
-pub fn copy64(from: &[f64], to: &mut [f64])
-    ensures { λ _. ⌜ now (to .exit) ≡ take (length (now (to .entry))) (now (from .entry)) ++ drop (length (now (from .entry))) (now (to .entry)) ⌝ }
-{
-    let n = smaller_of(to.len(), from.len());
-    let mut i = 0usize;
-    while i < n {
-        to[i] = from[i];
-        i += 1;
-    }
 }
 
 // x at the wider format, which holds every `f32`; a NaN gives a NaN.

@@ -5,7 +5,8 @@ use Prim.Native.Nat.{ℕ, zero, suc}
 use lib.Ieee.{Float}
 use Rattle.numbers.specs.declared.Refusal.{Refusal}
 use Rattle.rotations.specs.declared.Pose.{Pose}
-use Rattle.graph.specs.Lent.{Input, graphOf, lentGraph, poseAt}
+use Rattle.graph.specs.Lent.{poseAt}
+use Rattle.checks.specs.Input.{Input, graphOf, lentGraph}
 use Rattle.graph.specs.declared.Manifold.{Manifold}
 use Rattle.sparse_pgo.specs.Optimize.{After, optimized}
 use Rattle.sparse_pgo.specs.declared.Joined.{Joined}

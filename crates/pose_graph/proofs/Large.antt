@@ -18,11 +18,12 @@ use Rattle.numbers.specs.declared.Verdict.the-variants as verdict
 use Rattle.numbers.proofs.Tests.{neither-second}
 use Rattle.numbers.proofs.Reading.{ask-fine, row-at}
 use Rattle.numbers.proofs.Speaking.{row-speaks}
-use Rattle.graph.specs.Lent.{Input, graphOf, lent}
-use Rattle.graph.specs.Table.{badGravity, unfit, tooMany, rows, countsOf, settle, checks}
+use Rattle.checks.specs.Input.{Input, graphOf, lent}
+use Rattle.checks.specs.Table.{rows, countsOf, settle, checks}
+use Rattle.rows.specs.Tests.{badGravity, unfit, tooMany}
 use Rattle.graph.specs.declared.Manifold.{Manifold}
-use Rattle.graph.specs.declared.Settings.{Settings}
-use Rattle.graph.specs.declared.Room.{Room}
+use Rattle.rows.specs.declared.Settings.{Settings}
+use Rattle.rows.specs.declared.Room.{Room}
 use Rattle.sparse_pgo.specs.Optimize.{After, optimized}
 use Rattle.sparse_pgo.specs.declared.Answer.the-variants as answer
 use Rattle.sparse_pgo.proofs.Demands.{demand-one-before}

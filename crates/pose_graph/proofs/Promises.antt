@@ -18,9 +18,10 @@ use Rattle.numbers.proofs.Firsts.{First}
 use Rattle.numbers.proofs.Reading.{ask-fine}
 use Rattle.numbers.proofs.Speaking.{amongRows, row-spoke, row-speaks, none-earlier, first-lowest, lowest-first}
 use Rattle.graph.specs.Graph.{linksOf, isActive}
-use Rattle.graph.specs.Lent.{Input, graphOf, poseAt, names}
-use Rattle.graph.specs.Table.{rows}
-use Rattle.graph.proofs.Passed.{fit}
+use Rattle.graph.specs.Lent.{poseAt}
+use Rattle.checks.specs.Input.{Input, graphOf, names}
+use Rattle.checks.specs.Table.{rows}
+use Rattle.checks.proofs.Passed.{fit}
 use Rattle.residual.specs.Residuals.{hasResidual}
 use Rattle.sparse_pgo.specs.Optimize.{After, optimized}
 use Rattle.sparse_pgo.specs.declared.Joined.{Joined}

@@ -8,10 +8,11 @@ use Rattle.numbers.specs.declared.Verdict.{Verdict}
 use Rattle.numbers.specs.declared.Verdict.the-variants as verdict
 use Rattle.rotations.specs.declared.Pose.{Pose}
 use Rattle.graph.specs.Graph.{Graph}
-use Rattle.graph.specs.Lent.{Input, graphOf, poseAt}
+use Rattle.graph.specs.Lent.{poseAt}
+use Rattle.checks.specs.Input.{Input, graphOf}
 use Rattle.graph.specs.declared.Edge.{Edge}
 use Rattle.graph.specs.declared.Manifold.{Manifold}
-use Rattle.graph.specs.declared.Room.{Room}
+use Rattle.rows.specs.declared.Room.{Room}
 use Rattle.sparse_pgo.specs.Optimize.{After, optimized}
 use Rattle.sparse_pgo.specs.declared.Joined.{Joined}
 use Rattle.sparse_pgo.specs.declared.Answer.{Answer}

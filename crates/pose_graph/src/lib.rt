@@ -3,14 +3,14 @@
 ghost use mathlib.Core.Path.{_≡_};
 ghost use mathlib.Core.List.{[], _∷_};
 ghost use lib.ListN.{length};
-ghost use Rattle.graph.specs.Lent.{lent, lentGraph};
+ghost use Rattle.checks.specs.Input.{lent, lentGraph};
 ghost use Rattle.scans.specs.Scans.{scan};
 ghost use Rattle.pose_graph.specs.Closing.{resultFor, roomFor, closedRun, loopsClosed};
 use graph::Manifold;
-use graph::Settings;
 use numbers::Refusal;
 use numbers::Verdict;
 use printable::Measures;
+use rows::Settings;
 use sparse_pgo::Answer;
 use sparse_pgo::Joined;
 
@@ -87,7 +87,7 @@ fn run_and_judge(
     match answer {
         Answer::Refused(r) => Closed::Refused(r),
         Answer::Joined(run) => {
-            numbers::copy64(poses, original);
+            slices::copy64(poses, original);
             Closed::Ran(result_of(manifold, poses, ends, edges, out, run))
         }
     }

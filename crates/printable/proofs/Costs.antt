@@ -15,11 +15,11 @@ use Rattle.numbers.specs.Numbers.{root64}
 use Rattle.numbers.specs.declared.Failure.the-variants.{Numerical}
 use Rattle.numbers.proofs.Tests.{and-first, and-second}
 use Rattle.numbers.proofs.Bounded.{AtMost, at-most-more, add-at-most, zero-at-most, sum-at-most, square, half-finite, norm-finite}
-use Rattle.rotations.specs.ExpLog.{logWide}
+use Rattle.exp_log.specs.ExpLog.{logWide}
 use Rattle.rotations.specs.declared.Pose.{Pose}
 use Rattle.rotations.specs.declared.Transform.{Transform}
-use Rattle.rotations.specs.declared.Twist.{Twist}
-use Rattle.rotations.specs.declared.WideTwist.{WideTwist}
+use Rattle.exp_log.specs.declared.Twist.{Twist}
+use Rattle.exp_log.specs.declared.WideTwist.{WideTwist}
 use Rattle.pose_conversion.specs.Conversions.{finite3, validTransform, checkedTransform, converting}
 use Rattle.pose_conversion.specs.declared.Converted.{Converted}
 use Rattle.pose_conversion.specs.declared.Converted.the-variants as converted

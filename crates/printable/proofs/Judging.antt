@@ -22,8 +22,9 @@ use Rattle.residual.specs.declared.Residual.the-variants.{Six, Failed}
 use Rattle.printable.specs.declared.Measures.{Measures}
 use Rattle.printable.specs.declared.Printable.{Printable}
 use Rattle.printable.specs.declared.Printable.the-variants as printable
+use Rattle.rotations.specs.Rotation.{unitVec}
 use Rattle.printable.specs.Measures.{edgeResidual, residualNorm, lastResidual, measuresOf}
-use Rattle.printable.specs.Measures.{unitVec, gravityCosine, leastCosine, gravityKept, smallestCosine, cosineOf}
+use Rattle.printable.specs.Measures.{gravityCosine, leastCosine, gravityKept, smallestCosine, cosineOf}
 use Rattle.printable.specs.Printing.{finiteMeasures, costFell, lastNoWorse, usable, usableRun, printing, printingRun}
 use Rattle.printable.proofs.Costs.{Sound, residual-sound, length-finite, cost-finite}
 

@@ -7,13 +7,14 @@ use lib.Ieee.{Float, nan, inf, binary64, ofBits, add, sub, mul, div, neg, lt, le
 use Rattle.numbers.specs.Notation.{num, ratio, if-then}
 use Rattle.numbers.specs.Numbers.{rounded, rooted}
 use Rattle.numbers.specs.Walks.{every, sumOf}
-use Rattle.rotations.specs.Rotation.{vec, dot, cross, plus, minus, times, matrixOf, turned, conjugate, quatProduct, wide, finished, product, inverse}
+use Rattle.rotations.specs.Rotation.{vec, dot, cross, plus, minus, times, matrixOf, turned, conjugate, quatProduct, wide, finished, product, inverse, over}
 use Rattle.rotations.specs.FromMatrix.{halvedBy, byRule, quatOfMatrix}
-use Rattle.rotations.specs.ExpLog.{over, series, bent, upright, halved, arcSeries, angleOf, unbend, logWide}
+use Rattle.exp_log.specs.ExpLog.{series, bent, upright, halved, arcSeries, angleOf, unbend, logWide}
 use Rattle.pose_conversion.specs.Conversions.{vecF32, matF32, transformOf, rebuilt, finitePose, finiteTransform, validTransform, checkedTransform, converting}
 use Rattle.rotations.specs.declared.Pose.{Pose}
 use Rattle.graph.specs.Graph.{Graph}
-use Rattle.graph.specs.Lent.{poseFrom, poseAt, edgeFrom, lentGraph}
+use Rattle.graph.specs.Lent.{poseFrom, poseAt, edgeFrom}
+use Rattle.checks.specs.Input.{lentGraph}
 use Rattle.graph.specs.declared.Edge.{Edge}
 use Rattle.graph.specs.declared.Manifold.{Manifold}
 use Rattle.graph.specs.declared.Manifold.the-variants.{Se3, Gravity}

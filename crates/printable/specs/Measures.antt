@@ -8,13 +8,11 @@ use lib.Ieee.{Float, binary64, nan, lt}
 use Rattle.numbers.specs.Notation.{_⊕_, _⊗_, num, ratio, if-then}
 use Rattle.numbers.specs.Numbers.{root64}
 use Rattle.numbers.specs.Walks.{every, sumOf}
-use Rattle.rotations.specs.Rotation.{dot, turned}
-use Rattle.rotations.specs.ExpLog.{over}
+use Rattle.rotations.specs.Rotation.{dot, turned, unitVec}
 use Rattle.rotations.specs.declared.Vec3.{Vec3}
 use Rattle.rotations.specs.declared.Pose.{Pose}
-use Rattle.rotations.specs.declared.Twist.{Twist}
+use Rattle.exp_log.specs.declared.Twist.{Twist}
 use Rattle.graph.specs.Graph.{Graph}
-use Rattle.graph.specs.Table.{lengthOf}
 use Rattle.graph.specs.declared.Edge.{Edge}
 use Rattle.graph.specs.declared.Manifold.{Manifold}
 use Rattle.graph.specs.declared.Manifold.the-variants.{Se3, Gravity}
@@ -65,9 +63,6 @@ measuresOf g before after =
     }
 
 -- ---- gravity, as a camera sees it before and after: the cosine between the two
-
-abbrev pub unitVec : Vec3 → Vec3
-unitVec v = over v (lengthOf v)
 
 -- g of unit length, turned by each rotation
 unfoldable pub gravityCosine : Vec3 → Pose → Pose → Float

@@ -5,14 +5,15 @@ ghost use lib.Ieee.{lt};
 ghost use mathlib.Core.List.{[]};
 ghost use lib.ListN.{length};
 ghost use Rattle.numbers.specs.Notation.{if-then};
-ghost use Rattle.graph.specs.Lent.{poseAt, lentGraph};
+ghost use Rattle.graph.specs.Lent.{poseAt};
+ghost use Rattle.checks.specs.Input.{lentGraph};
 ghost use Rattle.printable.specs.Measures.{edgeResidual, squaresOf, withSquares, poseGraphCost, residualNorm, lastResidual, measuresOf};
-ghost use Rattle.printable.specs.Measures.{unitVec, gravityCosine, gravityKept, smallestCosine, cosineOf};
+ghost use Rattle.printable.specs.Measures.{gravityCosine, gravityKept, smallestCosine, cosineOf};
 ghost use Rattle.printable.specs.Printing.{usable, printing, finiteMeasures};
+use exp_log::Twist;
 use graph::Manifold;
 use residual::Residual;
 use rotations::Pose;
-use rotations::Twist;
 use rotations::Vec3;
 
 const LEAST_COSINE: f64 = 0.999999995;
@@ -119,17 +120,11 @@ pub fn measures_at(before: &[f64], after: &[f64], ends: &[u32], edges: &[f32]) -
 
 // ---- gravity
 
-fn unit_vec(v: Vec3) -> Vec3
-    ensures { λ r. ⌜ r ≡ unitVec v ⌝ }
-{
-    residual::normalized_gravity(v)
-}
-
 fn gravity_cosine(g: Vec3, before: Pose, after: Pose) -> f64
     ensures { λ r. ⌜ r ≡ gravityCosine g before after ⌝ }
 {
-    let a = unit_vec(rotations::turn_vec(before.rotation, g));
-    let b = unit_vec(rotations::turn_vec(after.rotation, g));
+    let a = rotations::unit_vec(rotations::turn_vec(before.rotation, g));
+    let b = rotations::unit_vec(rotations::turn_vec(after.rotation, g));
     rotations::dot_of(a, b)
 }
 
@@ -160,7 +155,7 @@ pub fn min_gravity_cosine(m: Manifold, before: &[f64], after: &[f64]) -> f64
 {
     match m {
         Manifold::Se3 => 1.0,
-        Manifold::Gravity(g) => smallest_cosine(unit_vec(g), before, after),
+        Manifold::Gravity(g) => smallest_cosine(rotations::unit_vec(g), before, after),
     }
 }
 

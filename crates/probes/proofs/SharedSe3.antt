@@ -8,26 +8,25 @@ use native.Mathlib.Omega.{arith}
 use lib.Dec.{ltb}
 use lib.Ieee.{Float, binary32}
 use lib.Ieee.Scale.{finite}
-use Rattle.numbers.specs.Notation.{if-then}
+use Rattle.numbers.specs.Notation.{if-then, numberAt}
 use Rattle.numbers.specs.Walks.{every}
 use Rattle.numbers.specs.declared.Failure.the-variants.{Numerical}
 use Rattle.rotations.specs.Rotation.{vec, plus, matrixOf, turned, quatProduct, wide, finished, roundedQuat, product}
-use Rattle.rotations.specs.ExpLog.{expOf, moving}
+use Rattle.exp_log.specs.ExpLog.{expOf, moving}
 use Rattle.rotations.specs.declared.Mat3.{Mat3}
 use Rattle.rotations.specs.declared.Transform.{Transform}
 use Rattle.rotations.specs.declared.Rigid.{Rigid}
 use Rattle.rotations.specs.declared.Pose.{Pose}
-use Rattle.rotations.specs.declared.Moved.the-variants as moved
+use Rattle.exp_log.specs.declared.Moved.the-variants as moved
 use Rattle.pose_conversion.specs.Conversions.{vecF32, vecF64, matF32, matF64, rebuilt, poseOf, finitePose, finiteTransform}
 use Rattle.pose_conversion.specs.Conversions.{validPose, checkedTransform, checkedPose, converting, restoring}
 use Rattle.pose_conversion.specs.declared.Converted.{Converted}
 use Rattle.pose_conversion.specs.declared.Converted.the-variants as converted
 use Rattle.pose_conversion.specs.declared.Restored.the-variants as restored
 use Rattle.graph.specs.declared.Manifold.the-variants.{Se3}
-use Rattle.residual.specs.Retraction.{at, retractOf, retractSe3}
+use Rattle.retraction.specs.Retraction.{retractOf, retractSe3}
 use Rattle.probes.specs.Probes.{nudge, stepSize, probeOf, probesOf}
-use Rattle.probes.specs.Stances.{stepQuat, stepShift, stepBy, settledBy, swungBy, joined}
-use Rattle.probes.specs.Stances.{stanceSe3, probeSe3, probeBy}
+use Rattle.probes.specs.Stances.{stepQuat, stepShift, stepBy, settledBy, swungBy, joined, stanceSe3, probeSe3, probeBy}
 use Rattle.numbers.proofs.Own.{rounded-twice}
 use Rattle.probes.proofs.PoseAgain.{pose-again}
 
@@ -120,8 +119,8 @@ module _ (c : ℕ) (small : c < 6) (ahead : Bool) where
   abbrev δ : List Float
   δ = nudge c (stepSize ahead)
 
-  module _ (step : expOf (vec (at δ 0) (at δ 1) (at δ 2)) (vec (at δ 3) (at δ 4) (at δ 5)) ≡ moved.To (stepBy c ahead))
-      (fin : every (λ j. finite (at δ j)) 6 ≡ true) where
+  module _ (step : expOf (vec (numberAt δ 0) (numberAt δ 1) (numberAt δ 2)) (vec (numberAt δ 3) (numberAt δ 4) (numberAt δ 5)) ≡ moved.To (stepBy c ahead))
+      (fin : every (λ j. finite (numberAt δ j)) 6 ≡ true) where
     probe-from : (x : Converted)
         → probeBy (stanceSe3 x) c ahead ≡ restoring (converting x (λ a. checkedPose (product a (stepBy c ahead))) restored.Bad) checkedTransform converted.Bad
     unfolding probeBy probeSe3 stanceSe3 converting restoring

@@ -8,24 +8,23 @@ use lib.IntN.{ℤ, pos, negsuc}
 use lib.Ieee.{Float, nan, inf, fin, add, sub, mul, div, neg, lt}
 use lib.Ieee.Scale.{finite}
 use lib.Ieee.Fits.{and-l, and-r}
-use Rattle.numbers.specs.Notation.{ratio, ratio32, if-then}
+use Rattle.numbers.specs.Notation.{ratio, ratio32, if-then, numberAt}
 use Rattle.numbers.specs.Numbers.{rounded}
 use Rattle.numbers.specs.Walks.{every}
 use Rattle.numbers.proofs.Tests.{and-first}
-use Rattle.rotations.specs.Rotation.{vec, dot, cross, plus, times, finished}
-use Rattle.rotations.specs.ExpLog.{over, series, squared, squarings, sineSeries, cosineSeries, turnBy, smallBend, bend, bent, turning, turnOf, movedBy, expOf}
+use Rattle.rotations.specs.Rotation.{vec, dot, cross, plus, times, finished, over}
+use Rattle.exp_log.specs.ExpLog.{series, squared, squarings, sineSeries, cosineSeries, turnBy, smallBend, bend, bent, turning, turnOf, movedBy, expOf}
 use Rattle.rotations.specs.declared.QuatF32.{QuatF32}
 use Rattle.rotations.specs.declared.Vec3F32.{Vec3F32}
 use Rattle.rotations.specs.declared.Transform.{Transform}
-use Rattle.rotations.specs.declared.Moved.{Moved}
-use Rattle.rotations.specs.declared.Moved.the-variants as moved
-use Rattle.residual.specs.Retraction.{at}
+use Rattle.exp_log.specs.declared.Moved.{Moved}
+use Rattle.exp_log.specs.declared.Moved.the-variants as moved
 use Rattle.probes.specs.Probes.{nudge, stepSize}
 use Rattle.probes.specs.Stances.{stepQuat, stepShift, stepBy}
 
 -- exp of a step along axis c
 abbrev expStep : ℕ → Bool → Moved
-expStep c ahead = let δ = nudge c (stepSize ahead) in expOf (vec (at δ 0) (at δ 1) (at δ 2)) (vec (at δ 3) (at δ 4) (at δ 5))
+expStep c ahead = let δ = nudge c (stepSize ahead) in expOf (vec (numberAt δ 0) (numberAt δ 1) (numberAt δ 2)) (vec (numberAt δ 3) (numberAt δ 4) (numberAt δ 5))
 
 -- ---- whether a float is another, and a transform: a test, so that antt computes both sides
 
@@ -132,7 +131,7 @@ exp-step c l ahead = is-eq _ _ (each-axis (λ c b. T (is (expStep c b) (stepBy c
 -- ---- a step's numbers are finite: all six, and so the first four
 
 abbrev finiteStep : ℕ → ℕ → Bool → Bool
-finiteStep n c ahead = every (λ j. finite (at (nudge c (stepSize ahead)) j)) n
+finiteStep n c ahead = every (λ j. finite (numberAt (nudge c (stepSize ahead)) j)) n
 
 finite-steps : (ahead : Bool) → Sixfold (λ c b. finiteStep 6 c b ≡ true) ahead
 unfolding every ratio ratio32 neg

@@ -11,7 +11,7 @@ use Rattle.pose_conversion.specs.Conversions.{checkedTransform, restoring}
 use Rattle.pose_conversion.specs.declared.Converted.{Converted}
 use Rattle.pose_conversion.specs.declared.Converted.the-variants.{Bad}
 use Rattle.graph.specs.declared.Manifold.{Manifold}
-use Rattle.residual.specs.Retraction.{retractOf}
+use Rattle.retraction.specs.Retraction.{retractOf}
 
 -- NUM_JACOBIAN_EPS of the Rust
 abbrev pub eps : Float

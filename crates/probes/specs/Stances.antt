@@ -7,7 +7,7 @@ use Rattle.numbers.specs.Notation.{num, ratio32, if-then}
 use Rattle.numbers.specs.declared.Failure.the-variants.{Numerical}
 use Rattle.rotations.specs.Rotation.{vec, plus, minus, times, matrixOf, turned, matProduct, transpose, quatProduct, wide, roundedQuat}
 use Rattle.rotations.specs.FromMatrix.{quatOfMatrix}
-use Rattle.rotations.specs.ExpLog.{turnOf, turning}
+use Rattle.exp_log.specs.ExpLog.{turnOf, turning}
 use Rattle.rotations.specs.declared.Vec3.{Vec3}
 use Rattle.rotations.specs.declared.Vec3F32.{Vec3F32}
 use Rattle.rotations.specs.declared.Mat3.{Mat3}
@@ -17,7 +17,7 @@ use Rattle.rotations.specs.declared.QuatF32.{QuatF32}
 use Rattle.rotations.specs.declared.Transform.{Transform}
 use Rattle.rotations.specs.declared.Rigid.{Rigid}
 use Rattle.rotations.specs.declared.Pose.{Pose}
-use Rattle.rotations.specs.declared.Turn.{Turn}
+use Rattle.exp_log.specs.declared.Turn.{Turn}
 use Rattle.pose_conversion.specs.Conversions.{finite3, finitePose, vecF32, matF32, rebuilt, converting}
 use Rattle.pose_conversion.specs.declared.Converted.{Converted}
 use Rattle.pose_conversion.specs.declared.Converted.the-variants as converted

@@ -3,6 +3,7 @@ ghost use mathlib.Core.Path.{_≡_};
 ghost use Rattle.pose_conversion.specs.Conversions.{rebuilt};
 ghost use Rattle.probes.specs.Stances.{stepQuat, stepShift, finiteMatrix, turnedBy, swingOf, settledBy, swungBy, swingsBy, swingsAt, joined};
 ghost use Rattle.probes.specs.Stances.{probingOf, spinOf, stanceSe3, stanceOf, probesSe3, probeGravity, probesGravity, probesBy};
+use exp_log::Turn;
 use graph::Manifold;
 use numbers::Failure;
 use pose_conversion::Converted;
@@ -13,7 +14,6 @@ use rotations::Quat;
 use rotations::QuatF32;
 use rotations::Rigid;
 use rotations::Transform;
-use rotations::Turn;
 use rotations::Vec3;
 use rotations::Vec3F32;
 
@@ -220,9 +220,9 @@ pub fn probing_of(m: Manifold) -> Probing
         Manifold::Gravity(g) => {
             let eps = numbers::widen(NUM_JACOBIAN_EPS);
             Probing::Gravity {
-                still: rotations::turn_of(rotations::scaled(-0.0, g)),
-                ahead: rotations::turn_of(rotations::scaled(-eps, g)),
-                behind: rotations::turn_of(rotations::scaled(eps, g)),
+                still: exp_log::turn_of(rotations::scaled(-0.0, g)),
+                ahead: exp_log::turn_of(rotations::scaled(-eps, g)),
+                behind: exp_log::turn_of(rotations::scaled(eps, g)),
             }
         }
     }

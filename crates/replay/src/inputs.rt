@@ -1,8 +1,8 @@
 // What a graph's record starts with: its head, then poses, ends, edges and fixed entries.
 use crate::bytes;
 use graph::Manifold;
-use graph::Settings;
 use rotations::Vec3;
+use rows::Settings;
 ghost use Prim.Native.Nat.{_≤_};
 
 // No record holds more.

@@ -1,15 +1,15 @@
 // The layers below a run again: numbers, rotations, retraction and residual, one item at a time.
 ghost use Prim.Native.Nat.{_<_, _≤_};
 use crate::bytes;
+use exp_log::Moved;
+use exp_log::Twist;
 use graph::Edge;
 use graph::Manifold;
 use pose_conversion::Restored;
 use residual::Residual;
 use rotations::Mat3F32;
-use rotations::Moved;
 use rotations::Pose;
 use rotations::Transform;
-use rotations::Twist;
 use rotations::Vec3;
 use rotations::Vec3F32;
 
@@ -149,21 +149,21 @@ pub fn same_inverse(b: &[u8]) -> bool {
 pub fn same_exp(b: &[u8]) -> bool {
     let t = pose_conversion::vec3_to_f64(vec32_at(b, 0, 0));
     let w = pose_conversion::vec3_to_f64(vec32_at(b, 0, 3));
-    match rotations::exp(t, w) {
+    match exp_log::exp(t, w) {
         Moved::To(a) => same_transform(a, b, 24),
         Moved::TooFar => fails(b, 24),
     }
 }
 
 pub fn same_log(b: &[u8]) -> bool {
-    same_twist(rotations::log(transform_at(b, 0)), b, 28)
+    same_twist(exp_log::log(transform_at(b, 0)), b, 28)
 }
 
 // ---- poses
 
 pub fn same_retract(b: &[u8]) -> bool {
     same_restored(
-        residual::retract(Manifold::Se3, pose_at(b, 0), delta_at(b, 96, 6)),
+        retraction::retract(Manifold::Se3, pose_at(b, 0), delta_at(b, 96, 6)),
         b,
         120,
     )
@@ -173,7 +173,7 @@ pub fn same_retract(b: &[u8]) -> bool {
 pub fn same_retract_with_gravity(b: &[u8]) -> bool {
     let m = Manifold::Gravity(vec64_at(b, 0, 0));
     same_restored(
-        residual::retract(m, pose_at(b, 24), delta_at(b, 120, 4)),
+        retraction::retract(m, pose_at(b, 24), delta_at(b, 120, 4)),
         b,
         136,
     )

@@ -5,8 +5,8 @@ use decisions::End;
 use decisions::Next;
 use decisions::State;
 use decisions::Why;
-use graph::Settings;
 use numbers::Verdict;
+use rows::Settings;
 ghost use Prim.Native.Nat.{_≤_};
 
 // No record holds more.
@@ -69,7 +69,7 @@ fn decided(b: &[u8], events: &[u32], prices: &[f32]) -> Told {
     let tolerance = bytes::f32_at(b, 0, 1);
     let cost = bytes::f32_at(b, 0, 2);
     let damping = bytes::f32_at(b, 0, 3);
-    let asked = graph::validate_settings(Settings {
+    let asked = rows::validate_settings(Settings {
         limit,
         cost_tolerance: tolerance,
         gradient_tolerance: 0.0,

@@ -2,8 +2,8 @@
 use crate::bytes;
 use crate::inputs;
 use assembly::Assembled;
-use graph::Checked;
-use graph::Room;
+use checks::Checked;
+use rows::Room;
 use solve::Solved;
 ghost use Prim.Native.Nat.{_≤_};
 
@@ -24,13 +24,13 @@ fn assemble(
         work64: 6144,
         out: poses.len(),
     };
-    let checks = graph::validate_pose_graph(m, poses, ends, edges, fixed, room);
+    let checks = checks::validate_pose_graph(m, poses, ends, edges, fixed, room);
     let answer = checks.answer;
     let blocks = checks.blocks;
     match answer {
         Checked::Turned(r) => r.number,
         Checked::Fit(c) => {
-            let unit = residual::unit_manifold(m);
+            let unit = retraction::unit_manifold(m);
             match assembly::build_normal_system_with_mapping(
                 w32,
                 unit,

@@ -10,10 +10,10 @@ use Rattle.numbers.specs.Notation.{if-then}
 use Rattle.numbers.specs.declared.Failure.{Failure}
 use Rattle.numbers.specs.declared.Failure.the-variants.{Numerical}
 use Rattle.rotations.specs.Rotation.{wide, finished, roundedVec, roundedQuat, product, inverse}
-use Rattle.rotations.specs.ExpLog.{logWide}
-use Rattle.rotations.specs.LogParts.{logTurn, logAt}
+use Rattle.exp_log.specs.ExpLog.{logWide}
+use Rattle.exp_log.specs.LogParts.{logTurn, logAt}
 use Rattle.rotations.specs.declared.Transform.{Transform}
-use Rattle.rotations.specs.declared.Twist.{Twist}
+use Rattle.exp_log.specs.declared.Twist.{Twist}
 use Rattle.rotations.specs.declared.Pose.{Pose}
 use Rattle.pose_conversion.specs.Conversions.{validTransform, checkedTransform, converting}
 use Rattle.pose_conversion.specs.declared.Converted.{Converted}

@@ -5,11 +5,11 @@ use lib.Ieee.Scale.{finite}
 use Rattle.numbers.specs.Notation.{if-then}
 use Rattle.numbers.specs.declared.Failure.the-variants.{Numerical}
 use Rattle.rotations.specs.Rotation.{plus, minus, matrixOf, turned, conjugate, quatProduct, wide, roundedVec, roundedQuat, inverse}
-use Rattle.rotations.specs.LogParts.{logTurn, logAt}
+use Rattle.exp_log.specs.LogParts.{logTurn, logAt}
 use Rattle.rotations.specs.declared.Vec3.{Vec3}
 use Rattle.rotations.specs.declared.Mat3.{Mat3}
 use Rattle.rotations.specs.declared.Quat.{Quat}
-use Rattle.rotations.specs.declared.LogTurn.{LogTurn}
+use Rattle.exp_log.specs.declared.LogTurn.{LogTurn}
 use Rattle.rotations.specs.declared.Transform.{Transform}
 use Rattle.pose_conversion.specs.Conversions.{validTransform, converting}
 use Rattle.pose_conversion.specs.declared.Converted.{Converted}

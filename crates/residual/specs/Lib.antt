@@ -1,6 +1,2 @@
-pub mod Retraction
 pub mod Residuals
 pub mod EdgeParts
-pub mod Stowed
-pub mod Costs
-pub mod Samples

@@ -7,10 +7,10 @@ use Rattle.numbers.specs.Notation.{_⊠_, if-then}
 use Rattle.numbers.specs.Numbers.{narrowed}
 use Rattle.numbers.specs.declared.Failure.the-variants.{Numerical}
 use Rattle.rotations.specs.Rotation.{product, inverse}
-use Rattle.rotations.specs.ExpLog.{logWide}
+use Rattle.exp_log.specs.ExpLog.{logWide}
 use Rattle.rotations.specs.declared.Transform.{Transform}
-use Rattle.rotations.specs.declared.Twist.{Twist}
-use Rattle.rotations.specs.declared.WideTwist.{WideTwist}
+use Rattle.exp_log.specs.declared.Twist.{Twist}
+use Rattle.exp_log.specs.declared.WideTwist.{WideTwist}
 use Rattle.rotations.specs.declared.Vec3.{Vec3}
 use Rattle.rotations.specs.declared.Vec3F32.{Vec3F32}
 use Rattle.rotations.specs.declared.Pose.{Pose}

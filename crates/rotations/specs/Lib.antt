@@ -1,5 +1,2 @@
 pub mod Rotation
 pub mod FromMatrix
-pub mod ExpLog
-pub mod LogParts
-pub mod Samples

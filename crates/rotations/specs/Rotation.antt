@@ -1,8 +1,8 @@
 -- Vectors, matrices, quaternions and transforms (document 01, "Rotation arithmetic"). Every number is an f64 but in a type whose name ends in F32;
 -- a product and an inverse finish a transform, narrowed once. Sums go (x + y) + z.
 use lib.Ieee.{Float, neg}
-use Rattle.numbers.specs.Notation.{_⊕_, _⊖_, _⊗_, num}
-use Rattle.numbers.specs.Numbers.{narrowed}
+use Rattle.numbers.specs.Notation.{_⊕_, _⊖_, _⊗_, _⊘_, num}
+use Rattle.numbers.specs.Numbers.{narrowed, root64}
 use Rattle.rotations.specs.declared.Vec3.{Vec3}
 use Rattle.rotations.specs.declared.Quat.{Quat}
 use Rattle.rotations.specs.declared.Mat3.{Mat3}
@@ -30,6 +30,17 @@ minus a = vec (neg a.x) (neg a.y) (neg a.z)
 
 unfoldable pub times : Float → Vec3 → Vec3
 times k a = vec (k ⊗ a.x) (k ⊗ a.y) (k ⊗ a.z)
+
+-- each number of a vector divided by k
+unfoldable pub over : Vec3 → Float → Vec3
+over a k = vec (a.x ⊘ k) (a.y ⊘ k) (a.z ⊘ k)
+
+-- the length, and the vector divided by it
+abbrev pub lengthOf : Vec3 → Float
+lengthOf a = root64 (dot a a)
+
+abbrev pub unitVec : Vec3 → Vec3
+unitVec a = over a (lengthOf a)
 
 -- ---- quaternions and matrices
 

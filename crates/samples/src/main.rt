@@ -5,11 +5,11 @@ mod say;
 
 ghost use Prim.Native.Nat.{_≤_};
 use graph::Manifold;
-use graph::Settings;
 use graphs::Graph;
 use keyframes::Scan;
 use pose_graph::Closed;
 use pose_graph::PgoConfig;
+use rows::Settings;
 use sparse_pgo::Answer;
 
 fn settings(limit: u32, gradient_tolerance: f32) -> Settings {

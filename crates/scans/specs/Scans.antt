@@ -11,11 +11,12 @@ use Rattle.rotations.specs.Rotation.{plus, minus, turned, transpose, matProduct
 use Rattle.rotations.specs.declared.Pose.{Pose}
 use Rattle.rotations.specs.declared.Transform.{Transform}
 use Rattle.pose_conversion.specs.Conversions.{transformOf}
-use Rattle.graph.specs.Lent.{Input, lent, poseAt}
+use Rattle.graph.specs.Lent.{poseAt}
+use Rattle.checks.specs.Input.{Input, lent}
 use Rattle.graph.specs.declared.Edge.{Edge}
 use Rattle.graph.specs.declared.Manifold.{Manifold}
-use Rattle.graph.specs.declared.Settings.{Settings}
-use Rattle.graph.specs.declared.Room.{Room}
+use Rattle.rows.specs.declared.Settings.{Settings}
+use Rattle.rows.specs.declared.Room.{Room}
 use Rattle.scans.specs.declared.Node.{Node}
 use Rattle.scans.specs.declared.Node.the-variants.{At, Absent}
 

@@ -12,8 +12,9 @@ use Rattle.numbers.specs.Notation.{if-then}
 use Rattle.numbers.proofs.Choices.{left}
 use Rattle.solve.specs.declared.Solved.{Solved}
 use Rattle.solve.specs.declared.Solved.the-variants.{Step, Failed, Short}
-use Rattle.solve.specs.Rule.{row, pivot, lower, definite, forward, step, solvable, nothing}
-use Rattle.solve.specs.Work.{need, matrixOf, gradientOf, stepAt, after, workAfter, stepIn, answerOf, leaves}
+use Rattle.solve.specs.Rule.{factorRow, pivot, lower, definite, forward, step, solvable, nothing}
+use Rattle.profile.specs.Layout.{need, hessianOf}
+use Rattle.solve.specs.Work.{gradientOf, stepAt, after, workAfter, stepIn, solvedAs, leaves}
 use Rattle.solve.proofs.Places.{at-step, system-after, gradient-after, length-after, read-after, read-kept, after-ext}
 use Rattle.solve.proofs.Close.{Answered}
 
@@ -23,8 +24,8 @@ one-answer w n d r s v z p q = (p .0 ∙ sym (q .0), p .1 ∙ sym (q .1))
 
 -- ---- the rule reads H(i,j) for j ≤ i < n and g(i) for i < n, and nothing else
 
-row-ext : (h k : ℕ → Float) (A : ℕ → ℕ → Float) (m : ℕ) → ((j : ℕ) → j < m → h j ≡ k j) → row h A m ≡ row k A m
-unfolding row
+row-ext : (h k : ℕ → Float) (A : ℕ → ℕ → Float) (m : ℕ) → ((j : ℕ) → j < m → h j ≡ k j) → factorRow h A m ≡ factorRow k A m
+unfolding factorRow
 row-ext h k A zero e = refl
 row-ext h k A (suc j) e = rw (row-ext h k A j (λ i l. e i (omega arith)), e j (omega arith))
 
@@ -71,14 +72,14 @@ module _ (H K : ℕ → ℕ → Float) (d : Float) where
 -- ---- after a solve
 
 module _ (w : List Float) (n : ℕ) (x : ℕ → Float) (long : need n ≤ length w) where
-  pub same-solvable : (d : Float) → solvable (matrixOf (workAfter w n x) n) (gradientOf (workAfter w n x) n) n d ≡ solvable (matrixOf w n) (gradientOf w n) n d
-  same-solvable d = solvable-ext (matrixOf (workAfter w n x) n) (matrixOf w n) d (gradientOf (workAfter w n x) n) (gradientOf w n) n (system-after w n x long) (gradient-after w n x long)
+  pub same-solvable : (d : Float) → solvable (hessianOf (workAfter w n x) n) (gradientOf (workAfter w n x) n) n d ≡ solvable (hessianOf w n) (gradientOf w n) n d
+  same-solvable d = solvable-ext (hessianOf (workAfter w n x) n) (hessianOf w n) d (gradientOf (workAfter w n x) n) (gradientOf w n) n (system-after w n x long) (gradient-after w n x long)
 
   pub same-step : (d : Float) → stepIn (workAfter w n x) n d ≡ stepIn w n d
-  same-step d = step-ext (matrixOf (workAfter w n x) n) (matrixOf w n) d (gradientOf (workAfter w n x) n) (gradientOf w n) n (system-after w n x long) (gradient-after w n x long)
+  same-step d = step-ext (hessianOf (workAfter w n x) n) (hessianOf w n) d (gradientOf (workAfter w n x) n) (gradientOf w n) n (system-after w n x long) (gradient-after w n x long)
 
-  pub same-answer : (d : Float) → answerOf (workAfter w n x) n d ≡ answerOf w n d
-  unfolding answerOf
+  pub same-answer : (d : Float) → solvedAs (workAfter w n x) n d ≡ solvedAs w n d
+  unfolding solvedAs
   same-answer d = rw (length-after w n x, same-solvable d)
 
   -- the step, where it stands
@@ -93,14 +94,14 @@ pub after-after : (w : List Float) (n : ℕ) (x y : ℕ → Float) → workAfter
 after-after w n x y = after-ext (workAfter w n x) w n y y (length-after w n x) (λ q h k. read-kept w n x q h k) (λ i h. refl)
 
 -- with room there is an answer, by the rule
-pub answer-is : (w : List Float) (n : ℕ) (d : Float) → need n ≤ length w → answerOf w n d ≡ if-then (solvable (matrixOf w n) (gradientOf w n) n d) Step Failed
-unfolding answerOf
+pub answer-is : (w : List Float) (n : ℕ) (d : Float) → need n ≤ length w → solvedAs w n d ≡ if-then (solvable (hessianOf w n) (gradientOf w n) n d) Step Failed
+unfolding solvedAs
 answer-is w n d long = sym (left Short (le-ltb (length w) (need n) long) refl)
 
 -- so a solve after a solve answers and leaves what it would have at first
-pub same-leaves : (w : List Float) (n : ℕ) (x : ℕ → Float) → need n ≤ length w → (d : Float) → leaves (workAfter w n x) n d (answerOf (workAfter w n x) n d) ≡ leaves w n d (answerOf w n d)
+pub same-leaves : (w : List Float) (n : ℕ) (x : ℕ → Float) → need n ≤ length w → (d : Float) → leaves (workAfter w n x) n d (solvedAs (workAfter w n x) n d) ≡ leaves w n d (solvedAs w n d)
 unfolding if-then
-same-leaves w n x long d = rw (same-answer w n x long d, answer-is w n d long) (go (solvable (matrixOf w n) (gradientOf w n) n d))
+same-leaves w n x long d = rw (same-answer w n x long d, answer-is w n d long) (go (solvable (hessianOf w n) (gradientOf w n) n d))
   where
     go : (b : Bool) → leaves (workAfter w n x) n d (if-then b Step Failed) ≡ leaves w n d (if-then b Step Failed)
     go true = rw (same-step w n x long d) (after-after w n x (stepIn w n d))

@@ -1,6 +1,6 @@
 -- The solve by the profile follows the rule, and leaves all but L's places and the step's as they were: `followed`. Assumes nothing.
 use mathlib.Core.Path.{_≡_, refl, sym, ap, _∙_, subst}
-use mathlib.Core.Bool.{Bool, true, false, cond, true≢false}
+use mathlib.Core.Bool.{Bool, true, false, true≢false}
 use mathlib.Core.List.{List}
 use Prim.Native.Nat.{ℕ, zero, suc, _+_, _-_, _*_, _<_, _≤_}
 use native.Mathlib.Omega.{arith}
@@ -8,12 +8,14 @@ use lib.ListN.{length, getD, set}
 use lib.Ieee.{Float, nan}
 use Rattle.numbers.specs.Numbers.{root32}
 use Rattle.solve.specs.Rule as R
-use Rattle.solve.specs.Rule.{serves}
-use Rattle.solve.specs.Work.{need, matrixOf, gradientOf, kept, placeOf, after, workAfter, stepIn}
-use Rattle.solve.specs.Profile.{stepOf, firstOf, Within, Starts, nextEntry, rowFrom, pivotFrom, onward, wholeRow, rowsFrom, nextAhead, forwardFrom, backFrom, backwardFrom, substituteFrom, solvedFrom}
-use Rattle.solve.proofs.Index.{before}
-use Rattle.solve.proofs.Zeros.{Fits}
+use Rattle.profile.specs.Layout.{need, hessianOf}
+use Rattle.solve.specs.Work.{gradientOf, kept, placeOf, after, workAfter, stepIn}
+use Rattle.profile.specs.Starts.{firstOf}
+use Rattle.solve.specs.forms.Profile.{stepOf, nextEntry, rowFrom, pivotFrom, onward, wholeRow, rowsFrom, nextAhead, forwardFrom, backFrom, backwardFrom, substituteFrom, solvedFrom}
+use Rattle.profile.proofs.Index.{before}
+use Rattle.profile.proofs.Zeros.{Fits}
 use Rattle.solve.proofs.Places.{at-cell, system-after, gradient-after, length-after, read-after, read-kept, Spares, spares-none, spares-then, spares-set, free-cell, free-root, free-step}
+use Rattle.solve.proofs.Firsts.{Starts, Within}
 use Rattle.solve.proofs.Rows.{Fair, At, Factored, rows-same}
 use Rattle.solve.proofs.Steps.{step-same}
 
@@ -40,12 +42,7 @@ module _ (n : ℕ) (F : List ℕ) (low : Within n F) where
   whole-spares w d i hi =
       let v = rowFrom w n F i (i - firstOf F i) in
       let p = pivotFrom v n d i (firstOf F i) in
-      let s = row-spares w i (i - firstOf F i) hi (omega (arith, low i hi)) in
-      go (serves p) (set v (n * n + i) (root32 p)) v (spares-set n w v (n * n + i) (root32 p) (free-root n i hi) s) s
-    where
-      go : (b : Bool) (x y : List Float) → Spares n w x → Spares n w y → Spares n w (work (cond b (true, x) (false, y)))
-      go true x y a b = a
-      go false x y a b = b
+      spares-set n w v (n * n + i) (root32 p) (free-root n i hi) (row-spares w i (i - firstOf F i) hi (omega (arith, low i hi)))
 
   then-spares : (w : List Float) (o : Bool × List Float) (f : List Float → Bool × List Float) → Spares n w (work o) → ((v : List Float) → Spares n v (work (f v))) → Spares n w (work (onward o f))
   then-spares w (true, v) f s h = spares-then n w v (work (f v)) s (h v)
@@ -102,7 +99,7 @@ module _ (n : ℕ) (H : ℕ → ℕ → Float) (g : ℕ → Float) (d : Float) (
 -- ---- the solve of the work w: the rule's answer and step, and all but L's places and the step's as they were
 
 pub record Followed (w : List Float) (n : ℕ) (d : Float) (r : Bool) (v : List Float) : Type 0 where
-  pub yes : r ≡ R.solvable (matrixOf w n) (gradientOf w n) n d
+  pub yes : r ≡ R.solvable (hessianOf w n) (gradientOf w n) n d
   pub steps : r ≡ true → (k : ℕ) → k < n → stepOf v n k ≡ stepIn w n d k
   pub len : length v ≡ length w
   pub at : (q : ℕ) → q < length w → placeOf n q ≡ kept → getD v q nan ≡ getD w q nan
@@ -112,7 +109,7 @@ module _ (w : List Float) (n : ℕ) (F : List ℕ) (d : Float) (long : need n �
   abbrev clean : List Float
   clean = workAfter w n (stepOf w n)
 
-  at-entry : At n (matrixOf w n) (gradientOf w n) d F clean 0
+  at-entry : At n (hessianOf w n) (gradientOf w n) d F clean 0
   at-entry =
       record {
         long = omega (arith, length-after w n (stepOf w n));
@@ -124,7 +121,7 @@ module _ (w : List Float) (n : ℕ) (F : List ℕ) (d : Float) (long : need n �
       }
 
   module _ (st : Starts clean n F) (fit : (q : ℕ) → Fits (getD clean q nan)) where
-    fair : Fair n (matrixOf w n) (gradientOf w n) d F
+    fair : Fair n (hessianOf w n) (gradientOf w n) d F
     fair =
         record {
           low = λ a h. st a .low;
@@ -135,7 +132,7 @@ module _ (w : List Float) (n : ℕ) (F : List ℕ) (d : Float) (long : need n �
 
     own : Followed w n d (answer (solvedFrom clean n F d)) (work (solvedFrom clean n F d))
     own =
-        let rule = ruled n (matrixOf w n) (gradientOf w n) d F fair clean at-entry in
+        let rule = ruled n (hessianOf w n) (gradientOf w n) d F fair clean at-entry in
         let s = solved-spares n F (λ a h. st a .low) clean d in
         record { yes = rule .yes; steps = rule .steps; len = s .len ∙ length-after w n (stepOf w n); at = λ q h k. s .at q k ∙ read-kept w n (stepOf w n) q h k }
 

@@ -1,5 +1,3 @@
-pub mod Zeros
-pub mod Index
 pub mod Sums
 pub mod Lower
 pub mod Places

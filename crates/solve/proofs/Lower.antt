@@ -36,19 +36,19 @@ put-other f j x k h = rw (ne-eqb k j h)
 
 module _ (h : ℕ → Float) (A : ℕ → ℕ → Float) where
   abbrev entry : ℕ → Float
-  entry j = R.less (h j) (R.row h A j) (A j) j ⧄ A j j
+  entry j = R.less (h j) (R.factorRow h A j) (A j) j ⧄ A j j
 
-  row-grows : (j k : ℕ) → R.row h A (suc j) k ≡ cond (eqb k j) (entry j) (R.row h A j k)
-  unfolding R.row R.put
+  row-grows : (j k : ℕ) → R.factorRow h A (suc j) k ≡ cond (eqb k j) (entry j) (R.factorRow h A j k)
+  unfolding R.factorRow R.put
   row-grows j k = refl
 
-  row-own : (m j : ℕ) → j < m → R.row h A m j ≡ R.less (h j) (R.row h A m) (A j) j ⧄ A j j
+  row-own : (m j : ℕ) → j < m → R.factorRow h A m j ≡ R.less (h j) (R.factorRow h A m) (A j) j ⧄ A j j
   row-own m j l =
-      there (R.row h A) entry row-grows m j l
-      ∙ ap (λ (z : Float). z ⧄ A j j) (less-ext (h j) (R.row h A j) (A j) (R.row h A m) (A j) j (λ k g. sym (stays (R.row h A) entry row-grows j m k g (omega arith))) (λ k g. refl))
+      there (R.factorRow h A) entry row-grows m j l
+      ∙ ap (λ (z : Float). z ⧄ A j j) (less-ext (h j) (R.factorRow h A j) (A j) (R.factorRow h A m) (A j) j (λ k g. sym (stays (R.factorRow h A) entry row-grows j m k g (omega arith))) (λ k g. refl))
 
-row-above : (h : ℕ → Float) (A B : ℕ → ℕ → Float) (m : ℕ) → ((j : ℕ) → j < m → A j ≡ B j) → R.row h A m ≡ R.row h B m
-unfolding R.row
+row-above : (h : ℕ → Float) (A B : ℕ → ℕ → Float) (m : ℕ) → ((j : ℕ) → j < m → A j ≡ B j) → R.factorRow h A m ≡ R.factorRow h B m
+unfolding R.factorRow
 row-above h A B zero e = refl
 row-above h A B (suc j) e = rw (row-above h A B j (λ k l. e k (omega arith)), e j (omega arith))
 
@@ -58,27 +58,27 @@ module _ (H : ℕ → ℕ → Float) (g : ℕ → Float) (n : ℕ) (d : Float) w
   L = R.lower H d n
 
   abbrev rowOf : ℕ → ℕ → Float
-  rowOf i = R.put (R.row (H i) (R.lower H d i) i) i (root32 (R.pivot (H i) (R.lower H d i) d i))
+  rowOf i = R.put (R.factorRow (H i) (R.lower H d i) i) i (root32 (R.pivot (H i) (R.lower H d i) d i))
 
   lower-grows : (i a : ℕ) → R.lower H d (suc i) a ≡ cond (eqb a i) (rowOf i) (R.lower H d i a)
   unfolding R.lower
   lower-grows i a = refl
 
-  own-row : (i : ℕ) → i < n → R.row (H i) (R.lower H d i) i ≡ R.row (H i) L i
+  own-row : (i : ℕ) → i < n → R.factorRow (H i) (R.lower H d i) i ≡ R.factorRow (H i) L i
   own-row i h = row-above (H i) (R.lower H d i) L i (λ a l. sym (stays (R.lower H d) rowOf lower-grows i n a l (omega arith)))
 
-  L-row : (i k : ℕ) → i < n → k < i → R.row (H i) L i k ≡ L i k
+  L-row : (i k : ℕ) → i < n → k < i → R.factorRow (H i) L i k ≡ L i k
   L-row i k h l =
       sym
       (ap (λ (f : ℕ → Float). f k) (there (R.lower H d) rowOf lower-grows n i h)
-      ∙ put-other (R.row (H i) (R.lower H d i) i) i (root32 (R.pivot (H i) (R.lower H d i) d i)) k (λ e. omega arith)
+      ∙ put-other (R.factorRow (H i) (R.lower H d i) i) i (root32 (R.pivot (H i) (R.lower H d i) d i)) k (λ e. omega arith)
       ∙ ap (λ (f : ℕ → Float). f k) (own-row i h))
 
   pub L-entry : (i j : ℕ) → i < n → j < i → L i j ≡ R.less (H i j) (L i) (L j) j ⧄ L j j
   L-entry i j h l =
       sym (L-row i j h l)
       ∙ row-own (H i) L i j l
-      ∙ ap (λ (z : Float). z ⧄ L j j) (less-ext (H i j) (R.row (H i) L i) (L j) (L i) (L j) j (λ k g. L-row i k h (omega arith)) (λ k g. refl))
+      ∙ ap (λ (z : Float). z ⧄ L j j) (less-ext (H i j) (R.factorRow (H i) L i) (L j) (L i) (L j) j (λ k g. L-row i k h (omega arith)) (λ k g. refl))
 
   -- the pivot of row i
   abbrev pub pivot : ℕ → Float
@@ -88,12 +88,12 @@ module _ (H : ℕ → ℕ → Float) (g : ℕ → Float) (n : ℕ) (d : Float) w
   unfolding R.pivot
   pivot-is i h =
       ap (λ (f : ℕ → Float). R.less (H i i ⊞ d) f f i) (own-row i h)
-      ∙ less-ext (H i i ⊞ d) (R.row (H i) L i) (R.row (H i) L i) (L i) (L i) i (λ k g. L-row i k h g) (λ k g. L-row i k h g)
+      ∙ less-ext (H i i ⊞ d) (R.factorRow (H i) L i) (R.factorRow (H i) L i) (L i) (L i) i (λ k g. L-row i k h g) (λ k g. L-row i k h g)
 
   pub L-root : (i : ℕ) → i < n → L i i ≡ root32 (pivot i)
   L-root i h =
       ap (λ (f : ℕ → Float). f i) (there (R.lower H d) rowOf lower-grows n i h)
-      ∙ put-same (R.row (H i) (R.lower H d i) i) i (root32 (R.pivot (H i) (R.lower H d i) d i))
+      ∙ put-same (R.factorRow (H i) (R.lower H d i) i) i (root32 (R.pivot (H i) (R.lower H d i) d i))
       ∙ ap root32 (pivot-is i h)
 
   pub definite-more : (i : ℕ) → i < n → R.definite H d (suc i) ≡ (R.definite H d i && R.serves (pivot i))

@@ -15,9 +15,10 @@ use lib.Ieee.{Float, nan}
 use Rattle.numbers.specs.Notation.{num, if-then}
 use Rattle.numbers.proofs.Choices.{taken, left}
 use Rattle.numbers.proofs.Tables.{length-table, getD-table, is-table}
-use Rattle.solve.specs.Work.{need, matrixOf, gradientOf, Place, kept, scratch, stepAt, placeOf, after, workAfter}
-use Rattle.solve.specs.Profile.{stepOf, cleared, clearedRows}
-use Rattle.solve.proofs.Index.{before, le-or-lt, one-line}
+use Rattle.profile.specs.Layout.{need, hessianOf}
+use Rattle.solve.specs.Work.{gradientOf, Place, kept, scratch, stepAt, placeOf, after, workAfter}
+use Rattle.solve.specs.forms.Profile.{stepOf, cleared, clearedRows}
+use Rattle.profile.proofs.Index.{before, le-or-lt, one-line}
 
 -- ---- the places
 
@@ -94,7 +95,7 @@ module _ (w : List Float) (n : ℕ) (x : ℕ → Float) where
   pub read-kept : (q : ℕ) → q < length w → placeOf n q ≡ kept → getD (workAfter w n x) q nan ≡ getD w q nan
   read-kept q h k = read-after q h ∙ ap (after x (getD w q nan)) k
 
-  pub system-after : need n ≤ length w → (i j : ℕ) → j ≤ i → i < n → matrixOf (workAfter w n x) n i j ≡ matrixOf w n i j
+  pub system-after : need n ≤ length w → (i j : ℕ) → j ≤ i → i < n → hessianOf (workAfter w n x) n i j ≡ hessianOf w n i j
   system-after long i j h l = let g : j < n = omega arith in read-kept (j * n + i) (omega (arith, before n j n g)) (at-system n i j h l)
 
   pub gradient-after : need n ≤ length w → (i : ℕ) → i < n → gradientOf (workAfter w n x) n i ≡ gradientOf w n i

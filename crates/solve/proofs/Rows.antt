@@ -1,27 +1,33 @@
 -- The factor by the profile is the rule's: where it goes well the work holds the rule's factor, to the bit; else the rule's fails too. Assumes nothing.
 use mathlib.Core.Path.{_≡_, refl, sym, ap, _∙_, subst}
 use mathlib.Core.Logic.{_⊎_, inl, inr, ⊎-elim}
-use mathlib.Core.Bool.{Bool, true, false, cond, and-false}
+use mathlib.Core.Bool.{Bool, true, false, and-false, true≢false}
 use mathlib.Core.List.{List}
 use Prim.Native.Nat.{ℕ, zero, suc, _+_, _-_, _*_, _<_, _≤_}
-use native.Mathlib.Nat.{add-zero, add-suc, eq-or-lt-of-le}
+use native.Mathlib.Nat.{add-zero, add-suc, eq-or-lt-of-le, mul-pos, zero-mul, zero-lt-suc}
 use native.Mathlib.Omega.{arith}
 use lib.ListN.{length, getD, set, length-set}
 use lib.Seq.{getD-set-same, getD-set-other}
-use lib.Ieee.{Float, nan, binary32, lt}
+use lib.IntN.{pos}
+use lib.Dec.{eqb·suc-zero}
+use lib.Ieee.{Float, nan, inf, fin, binary32, up, down, lt, div}
+use lib.Ieee.Positive.{positive}
 use lib.Ieee.Bits.{ofBits-fits}
-use lib.Ieee.Fits.{add-fits}
+use lib.Ieee.Fits.{add-fits, up-pos, down-pos}
 use lib.Ieee.Scale.{finite}
 use Rattle.numbers.specs.Notation.{_⊞_, _⊠_, _⧄_, num}
 use Rattle.numbers.specs.Numbers.{root32}
 use Rattle.solve.specs.Rule as R
 use Rattle.solve.specs.Rule.{less, serves}
-use Rattle.solve.specs.Work.{need, matrixOf, gradientOf}
-use Rattle.solve.specs.Profile.{cellOf, rootOf, firstOf, Within, minusZero, start, entryFrom, nextEntry, rowFrom, pivotFrom, onward, wholeRow, rowsFrom}
-use Rattle.solve.proofs.Index.{before, one-line}
+use Rattle.profile.specs.Layout.{need, hessianOf}
+use Rattle.solve.specs.Work.{gradientOf}
+use Rattle.profile.specs.Starts.{firstOf, minusZero, startAt}
+use Rattle.solve.specs.forms.Profile.{cellOf, rootOf, entryFrom, nextEntry, rowFrom, pivotFrom, onward, wholeRow, rowsFrom}
+use Rattle.profile.proofs.Index.{before, one-line}
 use Rattle.numbers.proofs.Tests.{true-or-false}
-use Rattle.numbers.proofs.RootServes.{zero-is, root-serves}
-use Rattle.solve.proofs.Zeros.{Fits, literal-zero, zero-less, plus-times, less-square, plus-by, stuck-square}
+use Rattle.numbers.proofs.RootServes.{zero-is, above-zero, root-serves}
+use Rattle.profile.proofs.Zeros.{Fits, literal-zero, zero-less, plus-times, less-square, nothing-of, stuck-square}
+use Rattle.solve.proofs.Firsts.{Within}
 use Rattle.solve.proofs.Sums.{less-ext, less-idle, less-skip, less-stuck, less-fits, less-start, start-low}
 use Rattle.solve.proofs.Lower as O
 
@@ -38,6 +44,19 @@ finite-zero = rw zero-is
 serves-stuck : (p : Float) → finite p ≡ false → serves p ≡ false
 unfolding serves
 serves-stuck p e = rw e (and-false (lt (num 0) p))
+
+plus-by : (y : Float) → serves y ≡ true → num 0 ⧄ y ≡ num 0
+unfolding serves div
+plus-by y h = rw zero-is (go y (sym (above-zero y) ∙ h))
+  where
+    go : (y : Float) → positive y ≡ true → fin false 0 (pos 0) ⧄ y ≡ fin false 0 (pos 0)
+    go nan h = absurd (true≢false (sym h))
+    go (inf s) h = absurd (true≢false (sym h))
+    go (fin true n d) h = absurd (true≢false (sym h))
+    go (fin false zero d) h = absurd (true≢false (sym h))
+    go (fin false (suc n) d) h =
+        rw (eqb·suc-zero n)
+        (nothing-of false (0 * down d) (suc n * up d * 1) (mul-pos (mul-pos (zero-lt-suc n) (up-pos d)) (zero-lt-suc 0)) (zero-mul (down d)))
 
 -- the system, its damping, and a start for each row
 module _ (n : ℕ) (H : ℕ → ℕ → Float) (g : ℕ → Float) (d : Float) (F : List ℕ) where
@@ -63,7 +82,7 @@ module _ (n : ℕ) (H : ℕ → ℕ → Float) (g : ℕ → Float) (d : Float) (
   -- the work once i rows of L are in
   pub record At (w : List Float) (i : ℕ) : Type 0 where
     pub long : need n ≤ length w
-    pub system : (a b : ℕ) → b ≤ a → a < n → matrixOf w n a b ≡ H a b
+    pub system : (a b : ℕ) → b ≤ a → a < n → hessianOf w n a b ≡ H a b
     pub gradient : (a : ℕ) → a < n → gradientOf w n a ≡ g a
     pub cells : (a b : ℕ) → a < i → b < a → cellOf w n a b ≡ L a b
     pub roots : (a : ℕ) → a < i → rootOf w n a ≡ L a a
@@ -117,7 +136,7 @@ module _ (n : ℕ) (H : ℕ → ℕ → Float) (g : ℕ → Float) (d : Float) (
           getD-set-other (u m) (i * n + (f + m)) q (nextEntry (u m) n F i (f + m) f) nan (h (f + m) (omega arith))
           ∙ row-keeps m q (λ b l. h b (omega arith))
 
-      kept-system : (m a b : ℕ) → f + m ≤ i → b ≤ a → a < n → matrixOf (u m) n a b ≡ H a b
+      kept-system : (m a b : ℕ) → f + m ≤ i → b ≤ a → a < n → hessianOf (u m) n a b ≡ H a b
       kept-system m a b h hb ha =
           row-keeps m (b * n + a) (λ c l e. let z : b ≡ i = one-line n b a i c ha (omega arith) e in omega (arith, ap (λ (x : ℕ). x * n) z))
           ∙ r .system a b hb ha
@@ -140,7 +159,7 @@ module _ (n : ℕ) (H : ℕ → ℕ → Float) (g : ℕ → Float) (d : Float) (
       next-same m h same fine =
           let j = f + m in
           let hj : j < n = omega arith in
-          let s = start (H i j) f (firstOf F j) in
+          let s = startAt (H i j) f (firstOf F j) in
           let low : s ≤ j = start-low (H i j) j f (firstOf F j) (omega arith) (fair .low j hj) in
           rw (kept-system m i j (omega arith) (omega arith) hi, kept-far m (n * n + j) (omega arith) (omega arith), r .roots j h)
           (ap (λ (z : Float). z ⧄ L j j)
@@ -202,8 +221,8 @@ module _ (n : ℕ) (H : ℕ → ℕ → Float) (g : ℕ → Float) (d : Float) (
           let e : i * n + f + (b - f) ≡ i * n + b = omega arith in
           let a : ℕ → Float = λ k. getD v (i * n + f + k) nan in (
             serves-stuck (pivot i) (less-stuck (H i i ⊞ d) (L i) (L i) i b hb (stuck-square (L i b) x)),
-            serves-stuck (less (matrixOf v n i i ⊞ d) a a (i - f))
-                (less-stuck (matrixOf v n i i ⊞ d) a a (i - f) (b - f) (omega arith) (rw e (stuck-square (cellOf v n i b) y))),
+            serves-stuck (less (hessianOf v n i i ⊞ d) a a (i - f))
+                (less-stuck (hessianOf v n i i ⊞ d) a a (i - f) (b - f) (omega arith) (rw e (stuck-square (cellOf v n i b) y))),
           )
 
       -- the rows so far, where the pivot serves
@@ -253,9 +272,9 @@ module _ (n : ℕ) (H : ℕ → ℕ → Float) (g : ℕ → Float) (d : Float) (
       Whole (true, x) = At x (suc i) × Thin (suc i) × (serves (pivot i) ≡ true)
       Whole (false, x) = serves (pivot i) ≡ false
 
-      tested : (b : Bool) (x y : List Float) → (b ≡ true → At x (suc i) × Thin (suc i) × (serves (pivot i) ≡ true)) → (b ≡ false → serves (pivot i) ≡ false) → Whole (cond b (true, x) (false, y))
-      tested true x y h k = h refl
-      tested false x y h k = k refl
+      tested : (b : Bool) (x : List Float) → (b ≡ true → At x (suc i) × Thin (suc i) × (serves (pivot i) ≡ true)) → (b ≡ false → serves (pivot i) ≡ false) → Whole (b, x)
+      tested true x h k = h refl
+      tested false x h k = k refl
 
       whole : Whole (wholeRow w n F d i)
       unfolding wholeRow
@@ -266,7 +285,7 @@ module _ (n : ℕ) (H : ℕ → ℕ → Float) (g : ℕ → Float) (d : Float) (
           let fine : (k : ℕ) → k < i → finite (L i k) ≡ true = λ k l. s .1 k (omega (arith, low-end)) in
           let e = pivot-same same in
           rw e
-          (tested (serves (pivot i)) (set v (n * n + i) (root32 (pivot i))) v (λ z. (at-more same fine z, thin-more same fine z, z)) (λ z. z)))
+          (tested (serves (pivot i)) (set v (n * n + i) (root32 (pivot i))) (λ z. (at-more same fine z, thin-more same fine z, z)) (λ z. z)))
           (λ (s : (b : ℕ) × (f ≤ b) × (b < f + (i - f)) × (finite (L i b) ≡ false) × (finite (cellOf v n i b) ≡ false)).
           let z = pivot-stuck (s .0) (s .1) (omega (arith, low-end, s .2)) (s .3) (s .4) in
           rw (z .1) (z .0))

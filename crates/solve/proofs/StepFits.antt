@@ -11,7 +11,7 @@ use lib.Ieee.Scale.{finite}
 use Rattle.solve.specs.Rule.{put, lower, definite, forward, backward, step, solvable}
 use Rattle.numbers.proofs.Tests.{true-or-false, and-second}
 use Rattle.numbers.proofs.Walking.{every-miss}
-use Rattle.solve.proofs.Zeros.{Fits}
+use Rattle.profile.proofs.Zeros.{Fits}
 use Rattle.solve.proofs.Lower.{put-same}
 use Rattle.solve.proofs.Steps.{rule-keeps}
 

@@ -17,15 +17,15 @@ use lib.Ieee.Fits.{sub-fits, div-fits, neg-fits}
 use lib.Ieee.Scale.{finite}
 use Rattle.numbers.specs.Notation.{_⊟_, _⊠_, _⧄_, num}
 use Rattle.numbers.specs.Walks.{every}
-use Rattle.numbers.proofs.Walking.{every-ext}
+use Rattle.numbers.proofs.Walking.{every-ext, every-miss}
 use Rattle.solve.specs.Rule as R
 use Rattle.solve.specs.Rule.{less}
-use Rattle.solve.specs.Work.{need}
-use Rattle.solve.specs.Profile.{cellOf, rootOf, stepOf, firstOf, start, aheadFrom, nextAhead, forwardFrom, leftOut, nextBelow, lessBelow, backFrom, backwardFrom}
+use Rattle.profile.specs.Layout.{need}
+use Rattle.profile.specs.Starts.{firstOf, startAt}
+use Rattle.solve.specs.forms.Profile.{cellOf, rootOf, stepOf, aheadFrom, nextAhead, forwardFrom, leftOut, nextBelow, lessBelow, backFrom, backwardFrom}
 use Rattle.numbers.proofs.Tests.{true-or-false, and-first, and-second}
-use Rattle.numbers.proofs.Walking.{every-miss}
-use Rattle.solve.proofs.Index.{before, same-or-not}
-use Rattle.solve.proofs.Zeros.{Fits, Zero, zero-less, plus-times, unequal-zero, stuck-left, stuck-by}
+use Rattle.profile.proofs.Index.{before, same-or-not}
+use Rattle.profile.proofs.Zeros.{Fits, Zero, zero-less, plus-times, unequal-zero, stuck-left, stuck-by}
 use Rattle.solve.proofs.Sums.{less-ext, less-from, less-start, start-low}
 use Rattle.solve.proofs.Lower as O
 use Rattle.solve.proofs.Rows as W
@@ -126,7 +126,7 @@ module _ (n : ℕ) (H : ℕ → ℕ → Float) (g : ℕ → Float) (d : Float) (
   next-same i h same fine =
       let f = firstOf F i in
       let v = neg (g i) in
-      let s = start v f 0 in
+      let s = startAt v f 0 in
       let low : s ≤ i = start-low v i f 0 (fair .low i h) (omega arith) in
       rw (forward-keeps x n F i (n * n + n + i) (omega arith), r .gradient i h, forward-keeps x n F i (n * n + i) (omega arith), r .roots i h)
       (ap (λ (z : Float). z ⧄ L i i)

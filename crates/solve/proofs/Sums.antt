@@ -10,10 +10,10 @@ use lib.Ieee.Fits.{sub-fits}
 use lib.Ieee.Scale.{finite}
 use Rattle.numbers.specs.Notation.{_⊟_, _⊠_, num}
 use Rattle.solve.specs.Rule.{less}
-use Rattle.solve.specs.Profile.{minusZero, start}
-use Rattle.solve.proofs.Index.{le-or-lt}
+use Rattle.profile.specs.Starts.{minusZero, startAt}
+use Rattle.profile.proofs.Index.{le-or-lt}
 use Rattle.numbers.proofs.Tests.{true-or-false}
-use Rattle.solve.proofs.Zeros.{Fits, zero-less, plus-times, times-plus, stuck-left, stuck-right}
+use Rattle.profile.proofs.Zeros.{Fits, zero-less, plus-times, times-plus, stuck-left, stuck-right}
 
 pub less-ext : (v : Float) (a b c d : ℕ → Float) (m : ℕ) → ((k : ℕ) → k < m → a k ≡ c k) → ((k : ℕ) → k < m → b k ≡ d k) → less v a b m ≡ less v c d m
 unfolding less
@@ -55,12 +55,12 @@ module _ (v : Float) (a b : ℕ → Float) where
 
 -- ---- where the products may start
 
-start-minus : (v : Float) (x y : ℕ) → minusZero v ≡ true → start v x y ≡ 0
-unfolding start
+start-minus : (v : Float) (x y : ℕ) → minusZero v ≡ true → startAt v x y ≡ 0
+unfolding startAt
 start-minus v x y e = rw e
 
-start-else : (v : Float) (x y : ℕ) → minusZero v ≡ false → start v x y ≡ max x y
-unfolding start
+start-else : (v : Float) (x y : ℕ) → minusZero v ≡ false → startAt v x y ≡ max x y
+unfolding startAt
 start-else v x y e = rw e
 
 before-max : (k x y : ℕ) → k < max x y → (k < x) ⊎ (k < y)
@@ -71,7 +71,7 @@ max-low : (j x y : ℕ) → x ≤ j → y ≤ j → max x y ≤ j
 max-low j x y p q =
     ⊎-elim (λ (l : x ≤ y). rw (max-eq-right l) q) (λ (l : y < x). let g : y ≤ x = omega arith in rw (max-eq-left g) p) (le-or-lt x y)
 
-pub start-low : (v : Float) (j x y : ℕ) → x ≤ j → y ≤ j → start v x y ≤ j
+pub start-low : (v : Float) (j x y : ℕ) → x ≤ j → y ≤ j → startAt v x y ≤ j
 start-low v j x y p q =
     ⊎-elim (λ e. rw (start-minus v x y e) (omega arith)) (λ e. rw (start-else v x y e) (max-low j x y p q)) (true-or-false (minusZero v))
 
@@ -79,7 +79,7 @@ start-low v j x y p q =
 module _ (v : Float) (a b : ℕ → Float) (x y j : ℕ) (fit : Fits v)
     (za : (k : ℕ) → k < x → a k ≡ num 0) (fa : (k : ℕ) → k < j → finite (a k) ≡ true)
     (zb : (k : ℕ) → k < y → b k ≡ num 0) (fb : (k : ℕ) → k < j → finite (b k) ≡ true) (hx : x ≤ j) (hy : y ≤ j) where
-  idle : (k : ℕ) → k < start v x y → v ⊟ a k ⊠ b k ≡ v
+  idle : (k : ℕ) → k < startAt v x y → v ⊟ a k ⊠ b k ≡ v
   idle k h =
       ⊎-elim
       (λ (e : minusZero v ≡ true). let l : k < 0 = rw (start-minus v x y e) at h in absurd (omega arith))
@@ -92,7 +92,7 @@ module _ (v : Float) (a b : ℕ → Float) (x y j : ℕ) (fit : Fits v)
       (before-max k x y (rw (start-else v x y e) at h))))
       (true-or-false (minusZero v))
 
-  pub less-start : less v a b j ≡ less v (λ k. a (start v x y + k)) (λ k. b (start v x y + k)) (j - start v x y)
+  pub less-start : less v a b j ≡ less v (λ k. a (startAt v x y + k)) (λ k. b (startAt v x y + k)) (j - startAt v x y)
   less-start =
-      let e : j ≡ start v x y + (j - start v x y) = omega (arith, start-low v j x y hx hy) in
-      ap (less v a b) e ∙ less-skip v a b (start v x y) (j - start v x y) idle
+      let e : j ≡ startAt v x y + (j - startAt v x y) = omega (arith, start-low v j x y hx hy) in
+      ap (less v a b) e ∙ less-skip v a b (startAt v x y) (j - startAt v x y) idle

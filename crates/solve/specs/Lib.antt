@@ -1,3 +1,3 @@
 pub mod Rule
 pub mod Work
-pub mod Profile
+pub mod forms

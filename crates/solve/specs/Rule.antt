@@ -22,13 +22,13 @@ abbrev pub nothing : ℕ → Float
 nothing k = num 0
 
 -- the first m entries of a row of L below the diagonal, of the row h of H: L(i,j) = (H(i,j) less L(i,k) L(j,k), k rising) / L(j,j). L has the rows above.
-unfoldable pub row : (ℕ → Float) → (ℕ → ℕ → Float) → ℕ → ℕ → Float
-row h L zero = nothing
-row h L (suc j) = put (row h L j) j (less (h j) (row h L j) (L j) j ⧄ L j j)
+unfoldable pub factorRow : (ℕ → Float) → (ℕ → ℕ → Float) → ℕ → ℕ → Float
+factorRow h L zero = nothing
+factorRow h L (suc j) = put (factorRow h L j) j (less (h j) (factorRow h L j) (L j) j ⧄ L j j)
 
 -- the pivot of row i: H(i,i) + d less L(i,k) L(i,k), k rising
 unfoldable pub pivot : (ℕ → Float) → (ℕ → ℕ → Float) → Float → ℕ → Float
-pivot h L d i = less (h i ⊞ d) (row h L i) (row h L i) i
+pivot h L d i = less (h i ⊞ d) (factorRow h L i) (factorRow h L i) i
 
 -- a pivot serves if it is above 0 and finite
 unfoldable pub serves : Float → Bool
@@ -37,7 +37,7 @@ serves p = lt (num 0) p && finite p
 -- the first m rows of L, each with its pivot's root on the diagonal
 unfoldable pub lower : (ℕ → ℕ → Float) → Float → ℕ → ℕ → ℕ → Float
 lower H d zero a = nothing
-lower H d (suc i) a = cond (eqb a i) (put (row (H i) (lower H d i) i) i (root32 (pivot (H i) (lower H d i) d i))) (lower H d i a)
+lower H d (suc i) a = cond (eqb a i) (put (factorRow (H i) (lower H d i) i) i (root32 (pivot (H i) (lower H d i) d i))) (lower H d i a)
 
 -- whether the first m pivots all serve
 unfoldable pub definite : (ℕ → ℕ → Float) → Float → ℕ → Bool

@@ -10,14 +10,8 @@ use Rattle.numbers.specs.Walks.{table}
 use Rattle.solve.specs.declared.Solved.{Solved}
 use Rattle.solve.specs.declared.Solved.the-variants.{Step, Failed, Short}
 use Rattle.solve.specs.Rule.{step, solvable, nothing}
-
--- how many numbers n unknowns need
-abbrev pub need : ℕ → ℕ
-need n = n * (n + 3)
-
--- the system in the work
-abbrev pub matrixOf : List Float → ℕ → ℕ → ℕ → Float
-matrixOf w n i j = getD w (j * n + i) nan
+-- the system in the work: how many numbers n unknowns need, and H(i,j); the gradient
+use Rattle.profile.specs.Layout.{need, hessianOf}
 
 abbrev pub gradientOf : List Float → ℕ → ℕ → Float
 gradientOf w n i = getD w (n * n + n + i) nan
@@ -48,11 +42,11 @@ workAfter w n x = table (λ q. after x (getD w q nan) (placeOf n q)) (length w)
 -- ---- the answer: Short where the work is shorter than n (n + 3); else Step where the rule has a step, and Failed where it has none
 
 abbrev pub stepIn : List Float → ℕ → Float → ℕ → Float
-stepIn w n d = step (matrixOf w n) (gradientOf w n) n d
+stepIn w n d = step (hessianOf w n) (gradientOf w n) n d
 
-unfoldable pub answerOf : List Float → ℕ → Float → Solved
-answerOf w n d =
-    if-then (ltb (length w) (need n)) Short (if-then (solvable (matrixOf w n) (gradientOf w n) n d) Step Failed)
+unfoldable pub solvedAs : List Float → ℕ → Float → Solved
+solvedAs w n d =
+    if-then (ltb (length w) (need n)) Short (if-then (solvable (hessianOf w n) (gradientOf w n) n d) Step Failed)
 
 -- what each answer leaves
 abbrev pub leaves : List Float → ℕ → Float → Solved → List Float

@@ -1,37 +1,24 @@
 // The damped solve: damping on the diagonal, Cholesky, forward and back substitution, in lent work.
 // What is +0 by structure, left of a row's first entry that is not +0, is skipped: the bits are those of the plain rule all the same.
 ghost use mathlib.Core.Path.{_≡_};
-ghost use mathlib.Core.Bool.{true};
+ghost use mathlib.Core.Bool.{true, cond};
 ghost use Prim.Native.Nat.{ℕ, _+_, _-_, _*_, _<_, _≤_};
-ghost use lib.Dec.{leb};
 ghost use lib.ListN.{length, getD};
 ghost use lib.Ieee.{nan};
 ghost use lib.Ieee.Scale.{finite};
 ghost use Rattle.numbers.specs.Notation.{num};
 ghost use Rattle.numbers.specs.Walks.{every};
 ghost use Rattle.solve.specs.Rule as R;
-ghost use Rattle.solve.specs.Work.{need, workAfter, answerOf, leaves};
-ghost use Rattle.solve.specs.Profile as P;
+ghost use Rattle.profile.specs.Layout.{need};
+ghost use Rattle.profile.specs.Starts.{firstOf};
+ghost use Rattle.solve.specs.Work.{workAfter, solvedAs, leaves};
+ghost use Rattle.solve.specs.forms.Profile as P;
 
 // Step: the step stands in the work. Failed: there is none. Short: the work is shorter than n (n + 3), and is as it was.
 pub enum Solved {
     Step,
     Failed,
     Short,
-}
-
-// Whether n (n + 3) numbers have room.
-pub fn has_room(len: usize, n: usize) -> bool
-    ensures { λ r. ⌜ r ≡ leb (need n) len ⌝ }
-{
-    if n == 0usize {
-        return true;
-    }
-    let q = len / n;
-    if q < 3usize {
-        return false;
-    }
-    n <= q - 3usize
 }
 
 // ---- +0 in many places
@@ -69,85 +56,15 @@ fn clear_lower(w: &mut [f32], n: usize)
     clear(w, n * n, n);
 }
 
-// ---- where the rows start
-
-fn minus_zero(v: f32) -> bool
-    ensures { λ r. ⌜ r ≡ P.minusZero v ⌝ }
-{
-    if v == 0.0 {
-        f32::to_bits(v) != 0u32
-    } else {
-        false
-    }
-}
-
-fn plus_zero(v: f32) -> bool
-    ensures { λ r. ⌜ (r ≡ true → v ≡ num 0) ⌝ }
-{
-    if v == 0.0 {
-        f32::to_bits(v) == 0u32
-    } else {
-        false
-    }
-}
-
-// The first j with H(i,j) not +0, and i where there is none.
-fn first_in(w: &[f32], n: usize, i: usize) -> usize
-    requires { ⌜ n * n ≤ length (now w) ⌝ }
-    ensures { λ r. ⌜ P.Start (now (w .entry)) n i r ⌝ }
-{
-    if n <= i {
-        return 0usize;
-    }
-    let mut j = 0usize;
-    while j < i {
-        if !plus_zero(w[j * n + i]) {
-            return j;
-        }
-        j += 1usize;
-    }
-    i
-}
-
-// The profile of H: where each row starts. A run has at most 384 unknowns, 6 for each of 64 free poses; rows past them start at 0.
-fn profile(w: &[f32], n: usize) -> [usize; 384]
-    requires { ⌜ n * n ≤ length (now w) ⌝ }
-    ensures { λ r. ⌜ P.Starts (now (w .entry)) n r ⌝ }
-{
-    let mut f = [0usize; 384];
-    let mut i = 0usize;
-    while i < 384usize {
-        f[i] = first_in(w, n, i);
-        i += 1usize;
-    }
-    f
-}
-
-fn first_of(f: &[usize; 384], i: usize) -> usize
-    ensures { λ r. ⌜ r ≡ P.firstOf (now (f .entry)) i ⌝ }
-{
-    if i < 384usize { f[i] } else { 0usize }
-}
-
-// Where the products to be taken from v start, of rows that start at a and at b.
-fn start(v: f32, a: usize, b: usize) -> usize
-    ensures { λ r. ⌜ r ≡ P.start v a b ⌝ }
-{
-    if minus_zero(v) {
-        return 0usize;
-    }
-    if a < b { b } else { a }
-}
-
 // ---- the factor
 
-// v less the products of the m numbers from p on and the m from q on.
-fn less(w: &[f32], v: f32, p: usize, q: usize, m: usize) -> f32
+// v less the products of the numbers from p on and from q on, the k-th of each for k from a up to m.
+fn less(w: &[f32], v: f32, p: usize, q: usize, a: usize, m: usize) -> f32
     requires { ⌜ (p + m ≤ length (now w)) × (q + m ≤ length (now w)) ⌝ }
-    ensures { λ r. ⌜ r ≡ P.lessAt (now (w .entry)) v p q m ⌝ }
+    ensures { λ r. ⌜ r ≡ P.lessAt (now (w .entry)) v (p + a) (q + a) (m - a) ⌝ }
 {
     let mut s = v;
-    let mut k = 0usize;
+    let mut k = a;
     while k < m {
         s = s - w[p + k] * w[q + k];
         k += 1usize;
@@ -155,43 +72,36 @@ fn less(w: &[f32], v: f32, p: usize, q: usize, m: usize) -> f32
     s
 }
 
-// L(i,j), its products from a on.
-fn entry_from(w: &[f32], n: usize, i: usize, j: usize, a: usize) -> f32
-    requires { ⌜ (i < n) × (j < i) × (a ≤ j) × (need n ≤ length (now w)) ⌝ }
-    ensures { λ r. ⌜ r ≡ P.entryFrom (now (w .entry)) n i j a ⌝ }
-{
-    less(w, w[j * n + i], i * n + a, j * n + a, j - a) / w[n * n + j]
-}
-
-// The next entry of row i, which starts at s.
-fn next_entry(w: &[f32], n: usize, f: &[usize; 384], i: usize, j: usize, s: usize) -> f32
-    requires { ⌜ (i < n) × (j < i) × (s ≤ j) × (P.firstOf (now f) j ≤ j) × (need n ≤ length (now w)) ⌝ }
+// L(i,j), the next entry of row i, which stands from p on and starts at s.
+fn next_entry(w: &[f32], n: usize, f: &[usize; 384], i: usize, j: usize, s: usize, p: usize) -> f32
+    requires { ⌜ (i < n) × (j < i) × (need n ≤ length (now w)) × (p ≡ i * n) ⌝ }
     ensures { λ r. ⌜ r ≡ P.nextEntry (now (w .entry)) n (now (f .entry)) i j s ⌝ }
 {
-    let t = first_of(f, j);
-    let a = start(w[j * n + i], s, t);
-    entry_from(w, n, i, j, a)
+    let q = j * n;
+    let v = w[q + i];
+    less(w, v, p, q, profile::start(v, s, profile::first_of(f, j)), j) / w[n * n + j]
 }
 
-// Row i of L below the diagonal, from its start on.
-fn row_from(w: &mut [f32], n: usize, f: &[usize; 384], i: usize)
-    requires { ⌜ (i < n) × (need n ≤ length (now w)) × P.Within n (now f) ⌝ }
-    ensures { λ _. ⌜ now (w .exit) ≡ P.rowFrom (now (w .entry)) n (now (f .entry)) i (i - P.firstOf (now (f .entry)) i) ⌝ }
+// Row i of L below the diagonal, from its start s on.
+fn row_from(w: &mut [f32], n: usize, f: &[usize; 384], i: usize, s: usize)
+    requires { ⌜ (i < n) × (need n ≤ length (now w)) × (s ≡ firstOf (now f) i) ⌝ }
+    ensures { λ _. ⌜ now (w .exit) ≡ P.rowFrom (now (w .entry)) n (now (f .entry)) i (i - s) ⌝ }
 {
-    let s = first_of(f, i);
+    let p = i * n;
     let mut j = s;
     while j < i {
-        w[i * n + j] = next_entry(w, n, f, i, j, s);
+        w[p + j] = next_entry(w, n, f, i, j, s, p);
         j += 1usize;
     }
 }
 
 // The pivot of row i, its products from a on.
 fn pivot_from(w: &[f32], n: usize, damping: f32, i: usize, a: usize) -> f32
-    requires { ⌜ (i < n) × (a ≤ i) × (need n ≤ length (now w)) ⌝ }
+    requires { ⌜ (i < n) × (need n ≤ length (now w)) ⌝ }
     ensures { λ r. ⌜ r ≡ P.pivotFrom (now (w .entry)) n damping i a ⌝ }
 {
-    less(w, w[i * n + i] + damping, i * n + a, i * n + a, i - a)
+    let p = i * n;
+    less(w, w[p + i] + damping, p, p, a, i)
 }
 
 // Above 0 and finite.
@@ -205,29 +115,18 @@ fn serves(p: f32) -> bool
     }
 }
 
-// Row i of L with its diagonal, unless the pivot fails.
-fn whole_row(w: &mut [f32], n: usize, f: &[usize; 384], damping: f32, i: usize) -> bool
-    requires { ⌜ (i < n) × (need n ≤ length (now w)) × P.Within n (now f) ⌝ }
-    ensures { λ r. ⌜ (r, now (w .exit)) ≡ P.wholeRow (now (w .entry)) n (now (f .entry)) damping i ⌝ }
-{
-    row_from(w, n, f, i);
-    let s = first_of(f, i);
-    let p = pivot_from(w, n, damping, i, s);
-    if !serves(p) {
-        return false;
-    }
-    w[n * n + i] = numbers::sqrt32(p);
-    true
-}
-
-// L, row by row, unless a pivot fails.
+// L with its diagonal, row by row, up to a pivot that fails.
 fn factor(w: &mut [f32], n: usize, f: &[usize; 384], damping: f32) -> bool
-    requires { ⌜ (need n ≤ length (now w)) × P.Within n (now f) ⌝ }
+    requires { ⌜ need n ≤ length (now w) ⌝ }
     ensures { λ r. ⌜ (r, now (w .exit)) ≡ P.rowsFrom (now (w .entry)) n (now (f .entry)) damping 0 n ⌝ }
 {
     let mut i = 0usize;
     while i < n {
-        if !whole_row(w, n, f, damping, i) {
+        let s = profile::first_of(f, i);
+        row_from(w, n, f, i, s);
+        let p = pivot_from(w, n, damping, i, s);
+        w[n * n + i] = numbers::sqrt32(p);
+        if !serves(p) {
             return false;
         }
         i += 1usize;
@@ -237,30 +136,33 @@ fn factor(w: &mut [f32], n: usize, f: &[usize; 384], damping: f32) -> bool
 
 // ---- the substitutions
 
-// y(i), its products from a on.
-fn ahead_from(w: &[f32], n: usize, i: usize, a: usize) -> f32
-    requires { ⌜ (i < n) × (a ≤ i) × (need n ≤ length (now w)) ⌝ }
-    ensures { λ r. ⌜ r ≡ P.aheadFrom (now (w .entry)) n i a ⌝ }
-{
-    less(w, -w[n * n + n + i], i * n + a, n * n + n + n + a, i - a) / w[n * n + i]
-}
-
+// y(i)
 fn next_ahead(w: &[f32], n: usize, f: &[usize; 384], i: usize) -> f32
-    requires { ⌜ (i < n) × (P.firstOf (now f) i ≤ i) × (need n ≤ length (now w)) ⌝ }
+    requires { ⌜ (i < n) × (need n ≤ length (now w)) ⌝ }
     ensures { λ r. ⌜ r ≡ P.nextAhead (now (w .entry)) n (now (f .entry)) i ⌝ }
 {
-    let t = first_of(f, i);
-    let a = start(-w[n * n + n + i], t, 0usize);
-    ahead_from(w, n, i, a)
+    let d = n * n;
+    let g = d + n;
+    let v = -w[g + i];
+    less(
+        w,
+        v,
+        i * n,
+        g + n,
+        profile::start(v, profile::first_of(f, i), 0usize),
+        i,
+    )
+        / w[d + i]
 }
 
 fn forward(w: &mut [f32], n: usize, f: &[usize; 384])
-    requires { ⌜ (need n ≤ length (now w)) × P.Within n (now f) ⌝ }
+    requires { ⌜ need n ≤ length (now w) ⌝ }
     ensures { λ _. ⌜ now (w .exit) ≡ P.forwardFrom (now (w .entry)) n (now (f .entry)) n ⌝ }
 {
+    let x = n * n + n + n;
     let mut i = 0usize;
     while i < n {
-        w[n * n + n + n + i] = next_ahead(w, n, f, i);
+        w[x + i] = next_ahead(w, n, f, i);
         i += 1usize;
     }
 }
@@ -269,50 +171,47 @@ fn forward(w: &mut [f32], n: usize, f: &[usize; 384])
 fn left_out(f: &[usize; 384], i: usize, s: f32, k: usize) -> bool
     ensures { λ r. ⌜ r ≡ P.leftOut (now (f .entry)) i s k ⌝ }
 {
-    if i < first_of(f, k) { s != 0.0 } else { false }
+    if i < profile::first_of(f, k) {
+        s != 0.0
+    } else {
+        false
+    }
 }
 
-// s less L(k,i) x(k)
-fn next_below(w: &[f32], n: usize, f: &[usize; 384], i: usize, s: f32, k: usize) -> f32
-    requires { ⌜ (i < k) × (k < n) × (need n ≤ length (now w)) ⌝ }
+// s less L(k,i) x(k), where the step stands from x on
+fn next_below(w: &[f32], n: usize, f: &[usize; 384], i: usize, s: f32, k: usize, x: usize) -> f32
+    requires { ⌜ (i < k) × (k < n) × (need n ≤ length (now w)) × (x ≡ n * n + n + n) ⌝ }
     ensures { λ r. ⌜ r ≡ P.nextBelow (now (w .entry)) n (now (f .entry)) i s k ⌝ }
 {
     if left_out(f, i, s, k) {
         return s;
     }
-    s - w[k * n + i] * w[n * n + n + n + k]
+    s - w[k * n + i] * w[x + k]
 }
 
-// For all k after i.
-fn less_below(w: &[f32], n: usize, f: &[usize; 384], i: usize, v: f32) -> f32
-    requires { ⌜ (i < n) × (need n ≤ length (now w)) ⌝ }
-    ensures { λ r. ⌜ r ≡ P.lessBelow (now (w .entry)) n (now (f .entry)) i v (n - (i + 1)) ⌝ }
-{
-    let mut s = v;
-    let mut k = i + 1usize;
-    while k < n {
-        s = next_below(w, n, f, i, s, k);
-        k += 1usize;
-    }
-    s
-}
-
-// x(i)
-fn back_from(w: &[f32], n: usize, f: &[usize; 384], i: usize) -> f32
-    requires { ⌜ (i < n) × (need n ≤ length (now w)) ⌝ }
+// x(i): for all k after i.
+fn back_from(w: &[f32], n: usize, f: &[usize; 384], i: usize, x: usize) -> f32
+    requires { ⌜ (i < n) × (need n ≤ length (now w)) × (x ≡ n * n + n + n) ⌝ }
     ensures { λ r. ⌜ r ≡ P.backFrom (now (w .entry)) n (now (f .entry)) i ⌝ }
 {
-    less_below(w, n, f, i, w[n * n + n + n + i]) / w[n * n + i]
+    let mut s = w[x + i];
+    let mut k = i + 1usize;
+    while k < n {
+        s = next_below(w, n, f, i, s, k, x);
+        k += 1usize;
+    }
+    s / w[n * n + i]
 }
 
 fn backward(w: &mut [f32], n: usize, f: &[usize; 384])
     requires { ⌜ need n ≤ length (now w) ⌝ }
     ensures { λ _. ⌜ now (w .exit) ≡ P.backwardFrom (now (w .entry)) n (now (f .entry)) n ⌝ }
 {
+    let x = n * n + n + n;
     let mut i = n;
     while 0usize < i {
         i -= 1usize;
-        w[n * n + n + n + i] = back_from(w, n, f, i);
+        w[x + i] = back_from(w, n, f, i, x);
     }
 }
 
@@ -335,7 +234,7 @@ fn all_finite(w: &[f32], p: usize, m: usize) -> bool
 
 // Whether there is a step: it then stands in its places. L's places are left as they come.
 fn solves(w: &mut [f32], n: usize, f: &[usize; 384], damping: f32) -> bool
-    requires { ⌜ (need n ≤ length (now w)) × P.Within n (now f) ⌝ }
+    requires { ⌜ need n ≤ length (now w) ⌝ }
     ensures { λ r. ⌜ (r, now (w .exit)) ≡ P.solvedFrom (now (w .entry)) n (now (f .entry)) damping ⌝ }
 {
     if !factor(w, n, f, damping) {
@@ -346,28 +245,24 @@ fn solves(w: &mut [f32], n: usize, f: &[usize; 384], damping: f32) -> bool
     all_finite(w, n * n + n + n, n)
 }
 
-// The solve, where there is room.
-fn solve_in(w: &mut [f32], n: usize, damping: f32) -> Solved
-    requires { ⌜ need n ≤ length (now w) ⌝ }
-    ensures { λ r. ⌜ (r ≡ answerOf (now (w .entry)) n damping) × (now (w .exit) ≡ leaves (now (w .entry)) n damping (answerOf (now (w .entry)) n damping)) ⌝ }
+// How many of n numbers of the step are cleared.
+fn to_clear(found: bool, n: usize) -> usize
+    ensures { λ r. ⌜ r ≡ cond found 0 n ⌝ }
 {
-    clear_lower(w, n);
-    let f = profile(w, n);
-    if solves(w, n, &f, damping) {
-        clear_lower(w, n);
-        return Solved::Step;
-    }
-    clear(w, n * n + n + n, n);
-    clear_lower(w, n);
-    Solved::Failed
+    if found { 0usize } else { n }
 }
 
 // The work w holds a system of n unknowns: its step for the damping.
 pub fn solve_damped(w: &mut [f32], n: usize, damping: f32) -> Solved
-    ensures { λ r. ⌜ (r ≡ answerOf (now (w .entry)) n damping) × (now (w .exit) ≡ leaves (now (w .entry)) n damping (answerOf (now (w .entry)) n damping)) ⌝ }
+    ensures { λ r. ⌜ (r ≡ solvedAs (now (w .entry)) n damping) × (now (w .exit) ≡ leaves (now (w .entry)) n damping (solvedAs (now (w .entry)) n damping)) ⌝ }
 {
-    if has_room(w.len(), n) {
-        return solve_in(w, n, damping);
+    if !profile::has_room(w.len(), n) {
+        return Solved::Short;
     }
-    Solved::Short
+    clear_lower(w, n);
+    let f = profile::starts(w, n);
+    let found = solves(w, n, &f, damping);
+    clear(w, n * n + n + n, to_clear(found, n));
+    clear_lower(w, n);
+    if found { Solved::Step } else { Solved::Failed }
 }

@@ -13,22 +13,24 @@ use Rattle.numbers.specs.Notation.{_⊞_, num, if-then}
 use Rattle.numbers.specs.Walks.{done}
 use Rattle.numbers.proofs.Bounded.{norm-finite, damped-finite}
 use Rattle.graph.specs.Graph.{Links, linksOf, freeCount}
-use Rattle.graph.specs.Lent.{Input, graphOf, dofOf, poseAt}
-use Rattle.graph.specs.Table.{blocksOf, checks}
-use Rattle.graph.specs.declared.Counts.{Counts}
-use Rattle.graph.specs.declared.Checked.the-variants as checked
+use Rattle.graph.specs.Lent.{dofOf, poseAt}
+use Rattle.checks.specs.Input.{Input, graphOf}
+use Rattle.checks.specs.Table.{blocksOf, checks}
+use Rattle.checks.specs.declared.Counts.{Counts}
+use Rattle.checks.specs.declared.Checked.the-variants as checked
 use Rattle.graph.specs.declared.Edge.{Edge}
 use Rattle.graph.specs.declared.Manifold.{Manifold}
-use Rattle.graph.specs.declared.Settings.{Settings}
-use Rattle.graph.proofs.Answers.{dof-most}
-use Rattle.graph.proofs.Passed.{PassedGraph, fit}
-use Rattle.residual.specs.Retraction.{unitOf}
+use Rattle.rows.specs.declared.Settings.{Settings}
+use Rattle.graph.proofs.Degrees.{dof-most}
+use Rattle.checks.proofs.Passed.{PassedGraph, fit}
+use Rattle.retraction.specs.Retraction.{unitOf}
 use Rattle.assembly.proofs.Walked.{Fits, lent-fits}
 use Rattle.assembly.proofs.AllFinite.{Finite, edges-finite, matrix-finite, matrix-fits, gradient-finite, gradient-fits}
 use Rattle.solve.specs.Rule.{solvable}
-use Rattle.solve.specs.Work.{matrixOf, gradientOf, stepIn}
+use Rattle.profile.specs.Layout.{hessianOf}
+use Rattle.solve.specs.Work.{gradientOf, stepIn}
 use Rattle.solve.proofs.StepFits.{step-fits, step-finite}
-use Rattle.decisions.specs.Damping.{most}
+use Rattle.decisions.specs.Damping.{lambdaMax}
 use Rattle.decisions.specs.Run.{begun}
 use Rattle.decisions.specs.Machine.{Play, play}
 use Rattle.decisions.specs.declared.State.{State}
@@ -37,7 +39,8 @@ use Rattle.decisions.proofs.Levels.{at-above, at-most}
 use Rattle.decisions.proofs.Bounds.{Live}
 use Rattle.decisions.proofs.Machines.{played-live}
 use Rattle.sparse_pgo.specs.Parts.{Parts, step, noStep, numerics}
-use Rattle.sparse_pgo.specs.Numerics.{normOf, partsOn}
+use Rattle.trials.specs.Trials.{normOf}
+use Rattle.sparse_pgo.specs.Numerics.{partsOn}
 use Rattle.sparse_pgo.proofs.Looping.{not-above}
 use Rattle.sparse_pgo.proofs.Slots.{links-same}
 use Rattle.sparse_pgo.proofs.Demands.{runParts}
@@ -45,7 +48,7 @@ use Rattle.sparse_pgo.proofs.Demands.{runParts}
 -- of the system of n unknowns at the poses x, and of its step at damping d
 pub record AlwaysFinite (p : Parts (List Float) (List Float) (ℕ → Float)) (n : ℕ) (x : List Float) (d : Float) : Type 0 where
   pub gradient-norm : (w : List Float) → p .assembled x ≡ done w → finite (normOf (gradientOf w n) n) ≡ true
-  pub damped-diagonal : (w : List Float) → p .assembled x ≡ done w → (i : ℕ) → i < n → finite (matrixOf w n i i ⊞ d) ≡ true
+  pub damped-diagonal : (w : List Float) → p .assembled x ≡ done w → (i : ℕ) → i < n → finite (hessianOf w n i i ⊞ d) ≡ true
   pub step-norm : (w : List Float) (δ : ℕ → Float) → p .assembled x ≡ done w → p .solve w d ≡ step δ → finite (normOf δ n) ≡ true
 
 -- ---- for edges whose blocks lie within n unknowns, n at most 384, and a damping above 0 and at most 1e10
@@ -64,20 +67,20 @@ module _ (m : Manifold) (n poses : ℕ) (set : Settings) (l : Links Edge) (fit :
 
   solved : (w : List Float) (δ : ℕ → Float) → p .solve w d ≡ step δ → finite (normOf δ n) ≡ true
   unfolding partsOn if-then
-  solved w δ = go (solvable (matrixOf w n) (gradientOf w n) n d) refl
+  solved w δ = go (solvable (hessianOf w n) (gradientOf w n) n d) refl
     where
-      go : (b : Bool) → solvable (matrixOf w n) (gradientOf w n) n d ≡ b → if-then b (step (stepIn w n d)) noStep ≡ step δ → finite (normOf δ n) ≡ true
+      go : (b : Bool) → solvable (hessianOf w n) (gradientOf w n) n d ≡ b → if-then b (step (stepIn w n d)) noStep ≡ step δ → finite (normOf δ n) ≡ true
       go true s q =
           let e : stepIn w n d ≡ δ = cc in
           subst (λ (v : ℕ → Float). finite (normOf v n) ≡ true) e
-          (norm (stepIn w n d) (λ i h. step-finite (matrixOf w n) (gradientOf w n) n d i h s) (λ i h. step-fits (matrixOf w n) (gradientOf w n) n d i h))
+          (norm (stepIn w n d) (λ i h. step-finite (hessianOf w n) (gradientOf w n) n d i h s) (λ i h. step-fits (hessianOf w n) (gradientOf w n) n d i h))
       go false s q = let z : _≡_ {A = ℕ} 0 1 = cc in absurd (omega arith)
 
-  parts-finite : lt (num 0) d ≡ true → lt most d ≡ false → AlwaysFinite p n x d
+  parts-finite : lt (num 0) d ≡ true → lt lambdaMax d ≡ false → AlwaysFinite p n x d
   parts-finite a b =
       record {
         gradient-norm = λ w e. norm (gradientOf w n) (gradient-finite n w (system w e)) (gradient-fits n w (system w e));
-        damped-diagonal = λ w e i h. damped-finite (matrixOf w n i i) d (matrix-fits n w (system w e) i i (le-refl i) h) (matrix-finite n w (system w e) i i (le-refl i) h) a b;
+        damped-diagonal = λ w e i h. damped-finite (hessianOf w n i i) d (matrix-fits n w (system w e) i i (le-refl i) h) (matrix-finite n w (system w e) i i (le-refl i) h) a b;
         step-norm = λ w δ e q. solved w δ q;
       }
 

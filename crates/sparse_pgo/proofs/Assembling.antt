@@ -1,6 +1,6 @@
 -- The system of the accepted poses, and its gradient's norm. Assumes nothing.
 use mathlib.Core.Path.{_≡_, refl, sym, ap, ap₂, _∙_, subst}
-use mathlib.Core.Bool.{Bool, true, false}
+use mathlib.Core.Bool.{true, false}
 use mathlib.Core.List.{List, [], _++_}
 use Prim.Native.Nat.{ℕ, _+_, _-_, _*_, _≤_}
 use native.Mathlib.Omega.{arith}
@@ -21,18 +21,27 @@ use Rattle.graph.specs.Lent.{dofOf, poseAt}
 use Rattle.graph.specs.declared.Edge.{Edge}
 use Rattle.graph.specs.declared.Manifold.{Manifold}
 use Rattle.solve.specs.Rule.{nothing}
-use Rattle.solve.specs.Work.{need, workAfter}
+use Rattle.profile.specs.Layout.{need}
+use Rattle.solve.specs.Work.{gradientOf, workAfter}
 use Rattle.assembly.specs.Assembly.{cleared, assembledEnds, assembledFrom, assembledOf}
 use Rattle.assembly.specs.declared.Assembled.{Assembled}
 use Rattle.assembly.specs.declared.Assembled.the-variants as assembled
 use Rattle.assembly.proofs.Walked.{Fits}
 use Rattle.assembly.proofs.LeftBehind.{Clean, assembled-clean, clean-after}
+use Rattle.decisions.specs.declared.Assembly.{Assembly}
 use Rattle.decisions.specs.declared.Assembly.the-variants as assembly
 use Rattle.sparse_pgo.specs.declared.Job.{Job}
 use Rattle.sparse_pgo.specs.Parts.{assemblyOf}
-use Rattle.sparse_pgo.specs.Numerics.{partsOn, normOf}
-use Rattle.sparse_pgo.specs.Turns.{partsIn, Sized, Made}
-use Rattle.sparse_pgo.proofs.Steps.{norm-same}
+use Rattle.trials.specs.Trials.{normOf}
+use Rattle.trials.proofs.Steps.{norm-same}
+use Rattle.sparse_pgo.specs.Numerics.{partsOn}
+use Rattle.sparse_pgo.specs.forms.Turns.{partsIn, Sized, Holds, assemblyIn}
+
+-- an assembly: its answer, and the system where it goes on
+pub record Made (job : Job) (l : Links Edge) (x : List Float) (r : Assembly) (w32 : List Float) : Type 0 where
+  pub long : length w32 ≡ need (job .n)
+  pub answer : r ≡ assemblyOf (partsIn job l) (partsIn job l .assembled x)
+  pub holds : r ≡ assembly.Steep → Holds job l x w32
 
 -- work of exactly what is needed: what stood in it does not count
 whole-work : (m : Manifold) (n : ℕ) (l : Links Edge) (pose : ℕ → Pose) (w : List Float) → length w ≡ need n → assembledOf m n l pose w ≡ assembledFrom (assembledEnds m n l pose [])
@@ -51,6 +60,31 @@ part-norm w n from to e q =
     ap (λ (z : ℕ). normOf (λ i. getD (take z (drop from w)) i nan) (length (take z (drop from w)))) m
     ∙ ap (normOf (λ i. getD (take n (drop from w)) i nan)) (length-take-le n (drop from w) k)
     ∙ norm-same (λ i. getD (take n (drop from w)) i nan) (λ i. getD w (from + i) nan) n (λ i h. getD-take n (drop from w) i nan h ∙ getD-drop from w i nan)
+
+-- ---- what the code says of an assembly
+
+module _ (job : Job) (w32 : List Float) {made : Assembled} where
+  pub assembly-bad : {k : ℕ} {why : Failure} → made ≡ assembled.Bad k why → assembly.Refused (refusal 21 k) ≡ assemblyIn job made w32
+  assembly-bad q = rw q
+
+  pub assembly-short : made ≡ assembled.Short → assembly.Flat ≡ assemblyIn job made w32
+  assembly-short q = rw q
+
+  module _ (long : length w32 ≡ need (job .n)) (q : made ≡ assembled.Done) {norm tolerance : Float}
+      (e : norm ≡ normOf (λ i. getD (take (job .n * job .n + job .n + job .n - (job .n * job .n + job .n)) (drop (job .n * job .n + job .n) w32)) i nan) (length (take (job .n * job .n + job .n + job .n - (job .n * job .n + job .n)) (drop (job .n * job .n + job .n) w32))))
+      (u : tolerance ≡ job .settings .«gradient_tolerance») where
+    flat-is : lt norm tolerance ≡ lt (normOf (gradientOf w32 (job .n)) (job .n)) (job .settings .«gradient_tolerance»)
+    flat-is = ap₂ lt (e ∙ part-norm w32 (job .n) (job .n * job .n + job .n) (job .n * job .n + job .n + job .n) refl (omega (arith, long))) u
+
+    pub assembly-flat : lt norm tolerance ≡ true → assembly.Flat ≡ assemblyIn job made w32
+    unfolding if-then
+    assembly-flat t = rw (q, sym flat-is ∙ t)
+
+    pub assembly-steep : lt norm tolerance ≡ false → assembly.Steep ≡ assemblyIn job made w32
+    unfolding if-then
+    assembly-steep t = rw (q, sym flat-is ∙ t)
+
+-- ---- and what an assembly is
 
 module _ {job : Job} (l : Links Edge) (poses w32 : List Float) {w32' : List Float} {made : Assembled}
     (lent : Sized job × (length w32 ≡ need (job .n)))
@@ -74,48 +108,33 @@ module _ {job : Job} (l : Links Edge) (poses w32 : List Float) {w32' : List Floa
       = subst (Clean (dofOf (job .manifold) * job .free) w32) (ap (λ (z : Assembled × List Float). z .1) (sym h)) (assembled-clean (dofOf (job .manifold) * job .free) w32 room (job .manifold) l (poseAt poses) fits) in
       ap (λ (k : ℕ). workAfter w32' k nothing) (sym n) ∙ clean-after (dofOf (job .manifold) * job .free) w32 w32' left
 
-  said : made ≡ assembledFrom found .0
-  said = ap (λ (z : Assembled × List Float). z .0) made-is
-
-  module _ (long : length w32' ≡ length w32) where
+  module _ (long : length w32' ≡ length w32) {a : Assembly} (q : a ≡ assemblyIn job made w32') where
     sized : length w32' ≡ need (job .n)
     sized = long ∙ lent .1
 
-    pub assemble-bad : {k : ℕ} {why : Failure} → made ≡ assembled.Bad k why → Made job l poses (assembly.Refused (refusal 21 k)) w32'
-    assemble-bad {k} {why} q = record { long = sized; answer = go found (sym said ∙ q); holds = λ e. let z : _≡_ {A = ℕ} 0 1 = cc in absurd (omega arith) }
-      where
-        go : (e : Ended (List Float)) → assembledFrom e .0 ≡ assembled.Bad k why → assembly.Refused (refusal 21 k) ≡ assemblyOf (partsIn job l) e
-        go (done s) b = let z : _≡_ {A = ℕ} 0 1 = cc in absurd (omega arith)
-        go (stopped j Numerical s) b = let t : k ≡ j = cc in ap (λ (z : ℕ). assembly.Refused (refusal 21 z)) t
+    -- the answer, and that the work is the system where it goes on
+    by : (m : Assembled) (e : Ended (List Float)) → (m, w32') ≡ assembledFrom e → assemblyIn job m w32' ≡ assemblyOf (partsIn job l) e
+    unfolding partsOn
+    by assembled.Done (done s) c = let t : w32' ≡ s = ap (λ (z : Assembled × List Float). z .1) c in ap (λ (z : List Float). assemblyIn job assembled.Done z) t
+    by assembled.Done (stopped j why s) c = let d = ap (λ (z : Assembled × List Float). z .0) c in let z : _≡_ {A = ℕ} 0 1 = cc in absurd (omega arith)
+    by assembled.Short (done s) c = let d = ap (λ (z : Assembled × List Float). z .0) c in let z : _≡_ {A = ℕ} 0 1 = cc in absurd (omega arith)
+    by assembled.Short (stopped j why s) c = let d = ap (λ (z : Assembled × List Float). z .0) c in let z : _≡_ {A = ℕ} 0 1 = cc in absurd (omega arith)
+    by (assembled.Bad k why) (done s) c = let d = ap (λ (z : Assembled × List Float). z .0) c in let z : _≡_ {A = ℕ} 0 1 = cc in absurd (omega arith)
+    by (assembled.Bad k why) (stopped j Numerical s) c = let d : assembled.Bad k why ≡ assembled.Bad j Numerical = ap (λ (z : Assembled × List Float). z .0) c in let t : k ≡ j = cc in ap (λ (z : ℕ). assembly.Refused (refusal 21 z)) t
 
-    pub assemble-short : made ≡ assembled.Short → Made job l poses assembly.Flat w32'
-    assemble-short q = absurd (go found (sym said ∙ q))
-      where
-        go : (e : Ended (List Float)) → assembledFrom e .0 ≡ assembled.Short → ⊥
-        go (done s) b = let z : _≡_ {A = ℕ} 0 1 = cc in omega arith
-        go (stopped j why s) b = let z : _≡_ {A = ℕ} 0 1 = cc in omega arith
+    answers : a ≡ assemblyOf (partsIn job l) found
+    answers = q ∙ by made found made-is
 
-    module _ (q : made ≡ assembled.Done) {norm tolerance : Float}
-        (e : norm ≡ normOf (λ i. getD (take (job .n * job .n + job .n + job .n - (job .n * job .n + job .n)) (drop (job .n * job .n + job .n) w32')) i nan) (length (take (job .n * job .n + job .n + job .n - (job .n * job .n + job .n)) (drop (job .n * job .n + job .n) w32'))))
-        (u : tolerance ≡ job .settings .«gradient_tolerance») where
-      is-done : found ≡ done w32'
-      is-done = go found (sym said ∙ q) (ap (λ (z : Assembled × List Float). z .1) made-is)
-        where
-          go : (e : Ended (List Float)) → assembledFrom e .0 ≡ assembled.Done → w32' ≡ assembledFrom e .1 → e ≡ done w32'
-          go (done s) b a = ap done (sym a)
-          go (stopped j why s) b a = let z : _≡_ {A = ℕ} 0 1 = cc in absurd (omega arith)
+    steep : (m : Assembled) (e : Ended (List Float)) → (m, w32') ≡ assembledFrom e → assemblyIn job m w32' ≡ assembly.Steep → e ≡ done w32'
+    steep assembled.Done (done s) c b = ap done (sym (ap (λ (z : Assembled × List Float). z .1) c))
+    steep assembled.Done (stopped j why s) c b = let d = ap (λ (z : Assembled × List Float). z .0) c in let z : _≡_ {A = ℕ} 0 1 = cc in absurd (omega arith)
+    steep assembled.Short e c b = let z : _≡_ {A = ℕ} 0 1 = cc in absurd (omega arith)
+    steep (assembled.Bad k why) e c b = let z : _≡_ {A = ℕ} 0 1 = cc in absurd (omega arith)
 
-      flat-is : lt norm tolerance ≡ partsIn job l .flat w32'
-      unfolding partsOn
-      flat-is = ap₂ lt (e ∙ part-norm w32' (job .n) (job .n * job .n + job .n) (job .n * job .n + job .n + job .n) refl (omega (arith, sized))) u
-
-      answer-is : (b : Bool) → lt norm tolerance ≡ b → if-then b assembly.Flat assembly.Steep ≡ assemblyOf (partsIn job l) found
-      answer-is b t = ap (λ (z : Bool). if-then z assembly.Flat assembly.Steep) (sym t ∙ flat-is) ∙ ap (assemblyOf (partsIn job l)) (sym is-done)
-
-      pub assemble-flat : lt norm tolerance ≡ true → Made job l poses assembly.Flat w32'
-      unfolding if-then
-      assemble-flat t = record { long = sized; answer = answer-is true t; holds = λ e. let z : _≡_ {A = ℕ} 0 1 = cc in absurd (omega arith) }
-
-      pub assemble-steep : Fits (job .manifold) (dofOf (job .manifold) * job .free) l → lt norm tolerance ≡ false → Made job l poses assembly.Steep w32'
-      unfolding if-then
-      assemble-steep fits t = record { long = sized; answer = answer-is false t; holds = λ e. record { system = w32'; steps = nothing; is-system = is-done; work = sym (bare fits) } }
+    pub assembled-made : Fits (job .manifold) (dofOf (job .manifold) * job .free) l → Made job l poses a w32'
+    assembled-made fits =
+        record {
+          long = sized;
+          answer = answers;
+          holds = λ e. record { system = w32'; steps = nothing; is-system = steep made found made-is (sym q ∙ e); work = sym (bare fits) };
+        }

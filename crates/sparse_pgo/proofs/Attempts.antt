@@ -1,5 +1,5 @@
 -- A solve of the system that stands in the work, and the trial of its step. Assumes nothing.
-use mathlib.Core.Path.{_≡_, refl, sym, ap, ap₂, _∙_, subst}
+use mathlib.Core.Path.{_≡_, refl, sym, ap, _∙_}
 use mathlib.Core.Bool.{Bool, true, false}
 use mathlib.Core.List.{List, [], _∷_}
 use mathlib.Core.Logic.{⊎-elim}
@@ -8,28 +8,36 @@ use denote.Enum.Declared.{tagOf}
 use Prim.Native.Nat.{ℕ, _+_, _-_, _*_, _<_, _≤_}
 use native.Mathlib.Omega.{arith}
 use lib.ListN.{length, getD}
-use lib.Ieee.{Float, nan, binary32, ofBits, lt, round}
-use Rattle.numbers.specs.Notation.{ratio32, if-then}
+use lib.Ieee.{Float, nan, lt}
+use Rattle.numbers.specs.Notation.{if-then}
 use Rattle.numbers.proofs.Choices.{left}
+use Rattle.numbers.proofs.Parted.{partFrom, part-reads, length-part}
 use Rattle.graph.specs.Graph.{Links}
+use Rattle.graph.specs.Lent.{poseAt}
 use Rattle.graph.specs.declared.Edge.{Edge}
 use Rattle.graph.specs.declared.Slot.the-variants.{Block}
+use Rattle.costs.specs.Costs.{costEnds}
 use Rattle.solve.specs.declared.Solved.{Solved}
 use Rattle.solve.specs.declared.Solved.the-variants.{Step, Failed, Short}
 use Rattle.solve.specs.Rule.{solvable, nothing}
-use Rattle.solve.specs.Work.{need, matrixOf, gradientOf, workAfter, stepIn, answerOf, leaves}
+use Rattle.solve.specs.Work as solves
+use Rattle.profile.specs.Layout.{need, hessianOf}
+use Rattle.solve.specs.Work.{gradientOf, workAfter, stepIn, solvedAs}
 use Rattle.solve.proofs.Places.{length-after}
 use Rattle.solve.proofs.Again.{same-answer, same-leaves, answer-is, read-step}
 use Rattle.decisions.specs.Run.{heard}
-use Rattle.decisions.specs.declared.Trial.{Trial}
+use Rattle.decisions.specs.declared.State.{State}
+use Rattle.decisions.specs.declared.Raw.the-variants as raw
 use Rattle.decisions.specs.declared.Trial.the-variants as trial
+use Rattle.decisions.specs.declared.Outcome.{Outcome}
 use Rattle.decisions.specs.declared.Outcome.the-variants as outcome
+use Rattle.trials.specs.Trials.{normOf, stepTolerance, moves, movedNumbers, triedAs, trialIn, tried, tryLeaves}
+use Rattle.trials.proofs.Steps.{norm-same, moves-same, moved-same}
+use Rattle.trials.proofs.Halves.{tried-halves, trial-front, accepted-front}
 use Rattle.sparse_pgo.specs.declared.Job.{Job}
-use Rattle.sparse_pgo.specs.Parts.{numerics, trialAs}
-use Rattle.sparse_pgo.specs.Numerics.{partsOn, normOf, stepTolerance}
-use Rattle.sparse_pgo.specs.Turns.{partsIn, heldIn, triedIn, stepPart, Lent, Beside, Holds, Evaluated, Attempted}
-use Rattle.numbers.proofs.Parted.{partFrom, part-reads, length-part}
-use Rattle.sparse_pgo.proofs.Steps.{norm-same, moves-same, moved-same}
+use Rattle.sparse_pgo.specs.Parts.{numerics}
+use Rattle.sparse_pgo.specs.Numerics.{partsOn}
+use Rattle.sparse_pgo.specs.forms.Turns.{partsIn, heldIn, Lent, Holds, accepts, Attempted}
 
 -- a test for another answer
 pub no-step-told : (r : Solved) → OneOf (1 ∷ 2 ∷ []) (tagOf Rattle.solve.proofs.Solved.the-type r) → r ≡ Step → ⊥
@@ -40,9 +48,9 @@ no-step-told Short h e = let z : _≡_ {A = ℕ} 0 1 = cc in omega arith
 -- what an answer says of the rule
 module _ (w : List Float) (n : ℕ) (d : Float) (long : need n ≤ length w) where
   abbrev serves : Bool
-  serves = solvable (matrixOf w n) (gradientOf w n) n d
+  serves = solvable (hessianOf w n) (gradientOf w n) n d
 
-  solved-step : answerOf w n d ≡ Step → serves ≡ true
+  solved-step : solvedAs w n d ≡ Step → serves ≡ true
   unfolding if-then
   solved-step e = go serves (sym (answer-is w n d long) ∙ e)
     where
@@ -50,7 +58,7 @@ module _ (w : List Float) (n : ℕ) (d : Float) (long : need n ≤ length w) whe
       go true h = refl
       go false h = let z : _≡_ {A = ℕ} 0 1 = cc in absurd (omega arith)
 
-  solved-none : (answerOf w n d ≡ Step → ⊥) → serves ≡ false
+  solved-none : (solvedAs w n d ≡ Step → ⊥) → serves ≡ false
   unfolding if-then
   solved-none e = go serves (λ q. e (answer-is w n d long ∙ q))
     where
@@ -58,16 +66,15 @@ module _ (w : List Float) (n : ℕ) (d : Float) (long : need n ≤ length w) whe
       go true h = absurd (h refl)
       go false h = refl
 
-  none-failed : (answerOf w n d ≡ Step → ⊥) → answerOf w n d ≡ Failed
+  none-failed : (solvedAs w n d ≡ Step → ⊥) → solvedAs w n d ≡ Failed
   none-failed e = answer-is w n d long ∙ sym (left Step (solved-none e) refl)
 
-step-tolerance : stepTolerance ≡ ofBits binary32 0x3586_37bd
-unfolding ratio32 round ofBits
-step-tolerance = refl
-
-module _ {job : Job} {l : Links Edge} (price damping : Float) {w32 w32' before : List Float} {answer : Solved}
+module _ {job : Job} {l : Links Edge} (st : State) {w32 w32' before : List Float} {answer : Solved}
     (lent : Lent job w32 before) (h : Holds job l (heldIn job before) w32)
-    (s : (answer ≡ answerOf w32 (job .n) damping) × (w32' ≡ leaves w32 (job .n) damping (answerOf w32 (job .n) damping))) where
+    (s : (answer ≡ solvedAs w32 (job .n) (st .damping)) × (w32' ≡ solves.leaves w32 (job .n) (st .damping) (solvedAs w32 (job .n) (st .damping)))) where
+  abbrev damping : Float
+  damping = st .damping
+
   abbrev n : ℕ
   n = job .n
 
@@ -76,7 +83,7 @@ module _ {job : Job} {l : Links Edge} (price damping : Float) {w32 w32' before :
   δ = stepIn (h .system) n damping
 
   abbrev is-solvable : Bool
-  is-solvable = solvable (matrixOf (h .system) n) (gradientOf (h .system) n) n damping
+  is-solvable = solvable (hessianOf (h .system) n) (gradientOf (h .system) n) n damping
 
   long : need n ≤ length (h .system)
   long =
@@ -85,90 +92,95 @@ module _ {job : Job} {l : Links Edge} (price damping : Float) {w32 w32' before :
       omega arith
 
   -- the answer and what is left are those of the system as it was first solved
-  said : answer ≡ answerOf (h .system) n damping
-  said = s .0 ∙ ap (λ (w : List Float). answerOf w n damping) (h .work) ∙ same-answer (h .system) n (h .steps) long damping
+  said : answer ≡ solvedAs (h .system) n damping
+  said = s .0 ∙ ap (λ (w : List Float). solvedAs w n damping) (h .work) ∙ same-answer (h .system) n (h .steps) long damping
 
-  leaving : w32' ≡ leaves (h .system) n damping (answerOf (h .system) n damping)
-  leaving = s .1 ∙ ap (λ (w : List Float). leaves w n damping (answerOf w n damping)) (h .work) ∙ same-leaves (h .system) n (h .steps) long damping
+  leaving : w32' ≡ solves.leaves (h .system) n damping (solvedAs (h .system) n damping)
+  leaving = s .1 ∙ ap (λ (w : List Float). solves.leaves w n damping (solvedAs w n damping)) (h .work) ∙ same-leaves (h .system) n (h .steps) long damping
 
   still : (x : ℕ → Float) → w32' ≡ workAfter (h .system) n x → Holds job l (heldIn job before) w32'
   still x e = record { system = h .system; steps = x; is-system = h .is-system; work = e }
 
   -- no step
   module _ (none : answer ≡ Step → ⊥) where
-    no-step : answerOf (h .system) n damping ≡ Step → ⊥
+    no-step : solvedAs (h .system) n damping ≡ Step → ⊥
     no-step q = none (said ∙ q)
 
     unsolvable : is-solvable ≡ false
     unsolvable = solved-none (h .system) n damping long no-step
 
     left-so : w32' ≡ workAfter (h .system) n nothing
-    left-so = leaving ∙ ap (leaves (h .system) n damping) (none-failed (h .system) n damping long no-step)
+    left-so = leaving ∙ ap (solves.leaves (h .system) n damping) (none-failed (h .system) n damping long no-step)
 
-    pub attempt-failed : Beside (l .slot) (heldIn job before) (triedIn job before) → Attempted job l price damping before outcome.Failed w32' before
+    pub attempt-failed : length w32' ≡ need (job .n) → Attempted job l st before outcome.Failed w32' before
     unfolding partsOn numerics heard if-then
-    attempt-failed b =
-        record { answer = rw (h .is-system, unsolvable); held = refl; beside = b; holds = still nothing left-so; tried = λ c q. let z : _≡_ {A = ℕ} 0 1 = cc in absurd (omega arith) }
+    attempt-failed k = record { answer = rw (h .is-system, unsolvable); held = refl; holds = still nothing left-so; long = k }
 
-  -- a step
-  module _ (some : answer ≡ Step) where
+  -- a step, and its trial
+  module _ (some : answer ≡ Step) (sized : length w32' ≡ need (job .n)) (below : (p b : ℕ) → l .slot p ≡ Block b → b < job .free) where
     can : is-solvable ≡ true
     can = solved-step (h .system) n damping long (sym said ∙ some)
 
     left-with : w32' ≡ workAfter (h .system) n δ
-    left-with = leaving ∙ ap (leaves (h .system) n damping) (sym said ∙ some)
+    left-with = leaving ∙ ap (solves.leaves (h .system) n damping) (sym said ∙ some)
 
-    reads : (i : ℕ) → i < n → stepPart job w32' i ≡ δ i
-    reads i q = ap (λ (w : List Float). getD w (n * n + n + n + i) nan) left-with ∙ read-step (h .system) n δ long i q
+    -- the step as it is lent
+    abbrev lent-step : List Float
+    lent-step = partFrom (job .n * job .n + job .n + job .n) w32'
 
-    sized : length w32' ≡ need n
-    sized = ap length left-with ∙ length-after (h .system) n δ ∙ sym (ap length (h .work) ∙ length-after (h .system) n (h .steps)) ∙ lent .single
+    abbrev δ' : ℕ → Float
+    δ' i = getD lent-step i nan
 
-    -- its norm
-    module _ {norm tolerance : Float} (e : norm ≡ normOf (λ i. getD (partFrom (job .n * job .n + job .n + job .n) w32') i nan) (length (partFrom (job .n * job .n + job .n + job .n) w32')))
-        (q : tolerance ≡ ofBits binary32 0x3586_37bd) where
-      norm-is : norm ≡ normOf δ n
-      norm-is =
-          let o : length w32' - (n * n + n + n) ≡ n = omega (arith, sized) in
-          e
-          ∙ ap₂ normOf (part-reads (n * n + n + n) w32' nan) (length-part (n * n + n + n) w32' ∙ o)
-          ∙ norm-same (stepPart job w32') δ n reads
+    reads : (i : ℕ) → i < n → δ' i ≡ δ i
+    reads i q =
+        ap (λ (f : ℕ → Float). f i) (part-reads (n * n + n + n) w32' nan)
+        ∙ ap (λ (w : List Float). getD w (n * n + n + n + i) nan) left-with
+        ∙ read-step (h .system) n δ long i q
 
-      small-is : lt norm tolerance ≡ lt (normOf δ n) stepTolerance
-      small-is = ap₂ lt norm-is (q ∙ sym step-tolerance)
+    norm-is : normOf δ' (length lent-step) ≡ normOf δ n
+    norm-is =
+        let o : length w32' - (n * n + n + n) ≡ n = omega (arith, sized) in
+        ap (normOf δ') (length-part (n * n + n + n) w32' ∙ o) ∙ norm-same δ' δ n reads
 
-      pub attempt-small : lt norm tolerance ≡ true → Beside (l .slot) (heldIn job before) (triedIn job before) → Attempted job l price damping before outcome.Small w32' before
-      unfolding partsOn numerics heard if-then
-      attempt-small t b =
-          let u : lt (normOf δ n) stepTolerance ≡ true = sym small-is ∙ t in
-          record { answer = rw (h .is-system, can, u); held = refl; beside = b; holds = still δ left-with; tried = λ c q. let z : _≡_ {A = ℕ} 0 1 = cc in absurd (omega arith) }
+    moves-are : moves (job .manifold) (l .slot) (job .poses) (heldIn job before) δ' ≡ moves (job .manifold) (l .slot) (job .poses) (heldIn job before) δ
+    moves-are = moves-same (job .manifold) (l .slot) (job .free) n δ' δ (lent .sized .unknowns) below reads (job .poses) (heldIn job before)
 
-      -- its trial
-      module _ (below : (p b : ℕ) → l .slot p ≡ Block b → b < job .free) (t : lt norm tolerance ≡ false) {r : Trial} {after : List Float} (v : Evaluated job l price (stepPart job w32') before r after) where
-        big : lt (normOf δ n) stepTolerance ≡ false
-        big = sym small-is ∙ t
+    moved-are : movedNumbers (job .manifold) (l .slot) (heldIn job before) δ' ≡ movedNumbers (job .manifold) (l .slot) (heldIn job before) δ
+    moved-are = moved-same (job .manifold) (l .slot) (job .free) n δ' δ (lent .sized .unknowns) below reads (heldIn job before)
 
-        same-trial : partsIn job l .trial (heldIn job before) (stepPart job w32') ≡ partsIn job l .trial (heldIn job before) δ
-        unfolding partsOn
-        same-trial =
-            ap₂ (λ (a : Bool) (b : List Float). (a, b))
-            (moves-same (job .manifold) (l .slot) (job .free) n (stepPart job w32') δ (lent .sized .unknowns) below reads (job .poses) (heldIn job before))
-            (moved-same (job .manifold) (l .slot) (job .free) n (stepPart job w32') δ (lent .sized .unknowns) below reads (heldIn job before))
+    -- what is tried is what the run's numerics say
+    raw-is : numerics (partsIn job l) .attempt (heldIn job before) damping
+        ≡ if-then (lt (normOf δ n) stepTolerance) raw.Small
+        (triedAs (moves (job .manifold) (l .slot) (job .poses) (heldIn job before) δ) (costEnds l (poseAt (movedNumbers (job .manifold) (l .slot) (heldIn job before) δ))))
+    unfolding partsOn numerics if-then
+    raw-is = rw (h .is-system, can)
 
-        tried-is : numerics (partsIn job l) .attempt (heldIn job before) damping ≡ trialAs (partsIn job l) (partsIn job l .trial (heldIn job before) δ)
-        unfolding partsOn numerics if-then
-        tried-is = rw (h .is-system, can, big)
+    tried-is : tried (job .manifold) l (st .cost) lent-step before ≡ heard (st .cost) (numerics (partsIn job l) .attempt (heldIn job before) damping)
+    tried-is =
+        tried-halves (job .manifold) (l .slot) δ' (job .poses) before (lent .double) l (st .cost) lent-step refl refl
+        ∙ ap (heard (st .cost)) (rw (raw-is, norm-is, moves-are, moved-are))
 
-        moved-is : numerics (partsIn job l) .moved (heldIn job before) damping ≡ partsIn job l .trial (heldIn job before) δ .1
-        unfolding partsOn numerics if-then
-        moved-is = rw (h .is-system, can)
+    moved-is : numerics (partsIn job l) .moved (heldIn job before) damping ≡ movedNumbers (job .manifold) (l .slot) (heldIn job before) δ'
+    unfolding partsOn numerics if-then
+    moved-is = rw (h .is-system, can) (sym moved-are)
 
-        pub attempt-tried : Attempted job l price damping before (outcome.Tried r) w32' after
-        attempt-tried =
-            record {
-              answer = v .answer ∙ ap (λ (y : Bool × List Float). heard price (trialAs (partsIn job l) y)) same-trial ∙ ap (heard price) (sym tried-is);
-              held = v .held;
-              beside = v .beside;
-              holds = subst (λ (x : List Float). Holds job l x w32') (sym (v .held)) (still δ left-with);
-              tried = λ c q. let a : r ≡ trial.Accepted c = cc in v .tried c a ∙ ap (λ (y : Bool × List Float). y .1) same-trial ∙ sym moved-is;
-            }
+    -- the poses that are held then
+    held-by : (o : Outcome) → heldIn job (tryLeaves o before (trialIn (job .manifold) (l .slot) δ' before))
+        ≡ if-then (accepts o) (movedNumbers (job .manifold) (l .slot) (heldIn job before) δ') (heldIn job before)
+    unfolding if-then
+    held-by outcome.Failed = refl
+    held-by outcome.Small = refl
+    held-by (outcome.Tried (trial.Accepted c)) = accepted-front (job .manifold) (l .slot) δ' (job .poses) before (lent .double)
+    held-by (outcome.Tried (trial.Rejected w)) = trial-front (job .manifold) (l .slot) δ' (job .poses) before (lent .double)
+
+    pub attempt-tried : {o : Outcome} {after : List Float}
+        → (o ≡ tried (job .manifold) l (st .cost) (partFrom (job .n * job .n + job .n + job .n) w32') before)
+        × (after ≡ tryLeaves o before (trialIn (job .manifold) (l .slot) (λ i. getD (partFrom (job .n * job .n + job .n + job .n) w32') i nan) before))
+        → Attempted job l st before o w32' after
+    attempt-tried {o} {after} v =
+        record {
+          answer = v .0 ∙ tried-is;
+          held = ap (heldIn job) (v .1) ∙ held-by o ∙ ap (λ (z : List Float). if-then (accepts o) z (heldIn job before)) (sym moved-is);
+          holds = still δ left-with;
+          long = sized;
+        }

@@ -12,26 +12,28 @@ use Rattle.numbers.specs.Notation.{num}
 use Rattle.numbers.specs.declared.Refusal.{Refusal}
 use Rattle.rotations.specs.declared.Pose.{Pose}
 use Rattle.graph.specs.Graph.{Graph, Links, freeCount, linksOf}
-use Rattle.graph.specs.Lent.{Input, graphOf, dofOf, lentLinks, lent}
-use Rattle.graph.specs.Table.{blocksOf, checks}
+use Rattle.graph.specs.Lent.{dofOf, lentLinks}
+use Rattle.checks.specs.Input.{Input, graphOf, lent}
+use Rattle.checks.specs.Table.{blocksOf, checks}
 use Rattle.graph.specs.declared.Edge.{Edge}
 use Rattle.graph.specs.declared.Manifold.{Manifold}
 use Rattle.graph.specs.declared.Manifold.the-variants.{Se3, Gravity}
-use Rattle.graph.specs.declared.Settings.{Settings}
-use Rattle.graph.specs.declared.Counts.{Counts}
-use Rattle.graph.specs.declared.Checked.the-variants as checked
-use Rattle.graph.specs.declared.Checks.{Checks}
-use Rattle.graph.proofs.Answers.{dof-most}
-use Rattle.graph.proofs.Passed.{Passed, fit}
-use Rattle.residual.specs.Retraction.{unitOf}
-use Rattle.solve.specs.Work.{need}
+use Rattle.rows.specs.declared.Settings.{Settings}
+use Rattle.checks.specs.declared.Counts.{Counts}
+use Rattle.checks.specs.declared.Checked.the-variants as checked
+use Rattle.checks.specs.declared.Checks.{Checks}
+use Rattle.graph.proofs.Degrees.{dof-most}
+use Rattle.checks.proofs.Passed.{Passed, fit}
+use Rattle.retraction.specs.Retraction.{unitOf}
+use Rattle.profile.specs.Layout.{need}
 use Rattle.sparse_pgo.specs.declared.Job.{Job}
 use Rattle.sparse_pgo.specs.declared.Answer.{Answer}
 use Rattle.sparse_pgo.specs.declared.Answer.the-variants as answer
 use Rattle.sparse_pgo.specs.Parts.{Parts, Whole, whole}
 use Rattle.sparse_pgo.specs.Numerics.{partsOn, partsOf}
-use Rattle.sparse_pgo.specs.Optimize.{afterChecks, given, ran, zeroed, optimized}
-use Rattle.sparse_pgo.specs.Turns.{partsIn, linksIn, Lent, Startable, Begun}
+use Rattle.slices.specs.Slices.{zeroed}
+use Rattle.sparse_pgo.specs.Optimize.{afterChecks, given, ran, optimized}
+use Rattle.sparse_pgo.specs.forms.Turns.{partsIn, linksIn, Lent, Startable, Begun}
 use Rattle.sparse_pgo.proofs.Slots.{links-same}
 
 -- ---- an input that passes the checks, with what they handed on and its degrees of freedom

@@ -14,18 +14,19 @@ use Rattle.numbers.proofs.Choices.{taken}
 use Rattle.numbers.proofs.Walking.{some-hit}
 use Rattle.rotations.specs.declared.Pose.{Pose}
 use Rattle.graph.specs.Graph.{Graph, touches, isFree, blockOf, slotAt, linksOf, isBlock, isActive}
-use Rattle.graph.specs.Lent.{Input, graphOf, poseAt}
-use Rattle.graph.specs.Table.{checks}
-use Rattle.graph.specs.declared.Counts.{Counts}
-use Rattle.graph.specs.declared.Checked.{Checked}
-use Rattle.graph.specs.declared.Checked.the-variants as checked
+use Rattle.graph.specs.Lent.{poseAt}
+use Rattle.checks.specs.Input.{Input, graphOf}
+use Rattle.checks.specs.Table.{checks}
+use Rattle.checks.specs.declared.Counts.{Counts}
+use Rattle.checks.specs.declared.Checked.{Checked}
+use Rattle.checks.specs.declared.Checked.the-variants as checked
 use Rattle.graph.specs.declared.Edge.{Edge}
-use Rattle.graph.specs.declared.Settings.{Settings}
+use Rattle.rows.specs.declared.Settings.{Settings}
 use Rattle.graph.specs.declared.Slot.{Slot}
 use Rattle.graph.specs.declared.Slot.the-variants.{Block, Fixed}
-use Rattle.graph.proofs.Passed.{PassedSettings, fit}
+use Rattle.checks.proofs.Passed.{PassedSettings, fit}
 use Rattle.residual.specs.Residuals.{hasResidual, residualOf}
-use Rattle.residual.proofs.HadCost.{cost-residuals}
+use Rattle.costs.proofs.HadCost.{cost-residuals}
 use Rattle.decisions.specs.Machine.{Play, played, stateOf}
 use Rattle.decisions.specs.declared.End.the-variants as end
 use Rattle.decisions.specs.declared.Next.{Next}
@@ -33,9 +34,10 @@ use Rattle.decisions.specs.declared.Next.the-variants as next
 use Rattle.decisions.specs.declared.Raw.the-variants as raw
 use Rattle.decisions.proofs.Holding.{played-holds}
 use Rattle.sparse_pgo.specs.declared.Joined.{Joined}
+use Rattle.trials.specs.Trials.{pricedAs}
 use Rattle.sparse_pgo.specs.declared.Answer.{Answer}
 use Rattle.sparse_pgo.specs.declared.Answer.the-variants as answer
-use Rattle.sparse_pgo.specs.Parts.{Parts, Found, step, noStep, pricedAs, trialAs, stepAs, attemptAs, stepTo, movedTo, numerics}
+use Rattle.sparse_pgo.specs.Parts.{Parts, Found, step, noStep, trialAs, stepAs, attemptAs, stepTo, movedTo, numerics}
 use Rattle.sparse_pgo.specs.Parts.{joinedOf, answerOf, wholeFrom, whole}
 use Rattle.sparse_pgo.specs.Numerics.{partsOn}
 use Rattle.sparse_pgo.specs.Optimize.{After, afterChecks, ran, optimized}
@@ -49,7 +51,7 @@ module _ {X S D : Type 0} (p : Parts X S D) where
   Costs x c = p .cost x ≡ done c
 
   module _ (x : X) (damping new : Float) where
-    priced : (y : X) (e : Ended Float) → p .cost y ≡ e → pricedAs p e ≡ raw.Priced new → Costs y new
+    priced : (y : X) (e : Ended Float) → p .cost y ≡ e → pricedAs e ≡ raw.Priced new → Costs y new
     priced y (done c) q e = let same : c ≡ new = cc in q ∙ ap done same
     priced y (stopped k why c) q e = let z : _≡_ {A = ℕ} 0 1 = cc in absurd (omega arith)
 

@@ -15,17 +15,19 @@ use Rattle.numbers.proofs.Speaking.{amongRows, row-spoke}
 use Rattle.numbers.specs.declared.Refusal.{Refusal}
 use Rattle.numbers.specs.declared.Failure.the-variants.{Numerical}
 use Rattle.graph.specs.Graph.{freeCount}
-use Rattle.graph.specs.Lent.{Input, graphOf, dofOf}
-use Rattle.graph.specs.Table.{badGravity, rows, countsOf, checks}
-use Rattle.graph.specs.declared.Counts.{Counts}
-use Rattle.graph.specs.declared.Checked.{Checked}
-use Rattle.graph.specs.declared.Checked.the-variants as checked
-use Rattle.graph.specs.declared.Settings.{Settings}
-use Rattle.graph.proofs.Answers.{settle-turned}
-use Rattle.graph.proofs.Passed.{PassedSettings, fit}
-use Rattle.graph.proofs.Row26.{Adrift, refused-26}
-use Rattle.residual.specs.Retraction.{unitOf}
-use Rattle.solve.specs.Work.{need}
+use Rattle.graph.specs.Lent.{dofOf}
+use Rattle.checks.specs.Input.{Input, graphOf}
+use Rattle.checks.specs.Table.{rows, countsOf, checks}
+use Rattle.rows.specs.Tests.{badGravity}
+use Rattle.checks.specs.declared.Counts.{Counts}
+use Rattle.checks.specs.declared.Checked.{Checked}
+use Rattle.checks.specs.declared.Checked.the-variants as checked
+use Rattle.rows.specs.declared.Settings.{Settings}
+use Rattle.checks.proofs.Answers.{settle-turned}
+use Rattle.checks.proofs.Passed.{PassedSettings, fit}
+use Rattle.checks.proofs.Row26.{Adrift, refused-26}
+use Rattle.retraction.specs.Retraction.{unitOf}
+use Rattle.profile.specs.Layout.{need}
 use Rattle.decisions.specs.Demand.{Held}
 use Rattle.decisions.specs.Machine.{Play, played, stateOf}
 use Rattle.decisions.specs.declared.End.the-variants as end
@@ -40,7 +42,8 @@ use Rattle.sparse_pgo.specs.declared.Answer.{Answer}
 use Rattle.sparse_pgo.specs.declared.Answer.the-variants as answer
 use Rattle.sparse_pgo.specs.Parts.{Parts, assemblyOf, numerics, joinedOf, answerOf, wholeFrom, whole}
 use Rattle.sparse_pgo.specs.Numerics.{partsOf}
-use Rattle.sparse_pgo.specs.Optimize.{After, afterChecks, given, ran, zeroed, optimized}
+use Rattle.slices.specs.Slices.{zeroed}
+use Rattle.sparse_pgo.specs.Optimize.{After, afterChecks, given, ran, optimized}
 use Rattle.sparse_pgo.proofs.Looping.{not-above}
 
 -- ---- any two answers that meet a promise which is an equation agree

@@ -1,12 +1,6 @@
-pub mod Steps
 pub mod Sizes
-pub mod Halves
-pub mod Trials
-pub mod Commits
-pub mod Evaluating
 pub mod Attempts
 pub mod Assembling
-pub mod Settling
 pub mod Turning
 pub mod Looping
 pub mod Running

@@ -11,9 +11,9 @@ use lib.Ieee.{Float, nan, inf, fin, binary32, lt, le, fits}
 use Rattle.numbers.specs.Notation.{num, ratio, ratio32}
 use Rattle.graph.specs.Graph.{Links}
 use Rattle.graph.specs.declared.Edge.{Edge}
-use Rattle.decisions.specs.Damping.{most}
+use Rattle.decisions.specs.Damping.{lambdaMax}
 use Rattle.decisions.specs.Run.{begun}
-use Rattle.decisions.specs.Machine.{Play, movedOn, stateOf}
+use Rattle.decisions.specs.Machine.{Play, movedOn, stateOf, played}
 use Rattle.decisions.specs.declared.State.{State}
 use Rattle.decisions.specs.declared.End.{End}
 use Rattle.decisions.specs.declared.Next.{Next}
@@ -22,7 +22,7 @@ use Rattle.numbers.proofs.Order.{unsigned, le-of-not-lt}
 use Rattle.decisions.proofs.Going.{Going, turnsLeft, going-begin, going-on, going-less, going-done}
 use Rattle.sparse_pgo.specs.declared.Job.{Job}
 use Rattle.sparse_pgo.specs.Parts.{numerics}
-use Rattle.sparse_pgo.specs.Turns.{partsIn, heldIn, triedIn, Lent, Beside, Holds, Turned, Startable, Iterated}
+use Rattle.sparse_pgo.specs.forms.Turns.{partsIn, heldIn, Lent, Ready, Turned, Startable}
 
 -- ---- a first damping that passes row 19 is at most 1e10
 
@@ -34,28 +34,32 @@ above-zero (inf false) h = tt
 above-zero (fin true m e) h = absurd h
 above-zero (fin false m e) h = tt
 
-most-unsigned : T (unsigned most)
+most-unsigned : T (unsigned lambdaMax)
 unfolding ratio32
 most-unsigned = tt
 
-pub not-above : (d : Float) → lt (num 0) d ≡ true → lt most d ≡ false → le d most ≡ true
-not-above d p u = is-true (le d most) (le-of-not-lt d most (above-zero d (subst T (sym p) tt)) most-unsigned u)
+pub not-above : (d : Float) → lt (num 0) d ≡ true → lt lambdaMax d ≡ false → le d lambdaMax ≡ true
+not-above d p u = is-true (le d lambdaMax) (le-of-not-lt d lambdaMax (above-zero d (subst T (sym p) tt)) most-unsigned u)
 
--- ---- the loop's invariant: the lent work is as long as needed; the trial's poses agree with the accepted ones where nothing is free; the system stands in the work
--- where it is not to be assembled; and the whole run is what is left of it from here
+-- ---- the turns from the first cost on
+
+pub record Iterated (job : Job) (l : Links Edge) (cost : Float) (before : List Float) (r : Next) (after : List Float) : Type 0 where
+  pub answer : r ≡ played (numerics (partsIn job l)) (job .settings .limit) (job .settings .«cost_tolerance») cost (job .settings .damping) (heldIn job before) .next
+  pub held : heldIn job after ≡ played (numerics (partsIn job l)) (job .settings .limit) (job .settings .«cost_tolerance») cost (job .settings .damping) (heldIn job before) .held
+
+-- ---- the loop's invariant: the lent work is as long as needed; the system stands in it where it is not to be assembled; and the whole run is what is left of it
+-- from here
 
 pub record Turning (job : Job) (l : Links Edge) (cost : Float) (first w32 w64 : List Float) (s : State) : Type 0 where
   pub lent : Lent job w32 w64
-  pub beside : Beside (l .slot) (heldIn job w64) (triedIn job w64)
-  pub holds : s .fresh ≡ false → Holds job l (heldIn job w64) w32
+  pub holds : Ready job l s (heldIn job w64) w32
   pub going : Going (numerics (partsIn job l)) (job .settings .limit) (job .settings .«cost_tolerance») cost (job .settings .damping) (heldIn job first) s (heldIn job w64)
 
 pub turning-begin : {job : Job} {l : Links Edge} {cost : Float} {w32 w64 : List Float} {s : State} → s ≡ begun cost (job .settings .damping) → Lent job w32 w64 → Startable job
-    → T (fits binary32 (job .settings .damping)) → Beside (l .slot) (heldIn job w64) (triedIn job w64) → Turning job l cost w64 w32 w64 s
-turning-begin {job} {l} {cost} {w32} {w64} {s} e lent start f b =
+    → T (fits binary32 (job .settings .damping)) → Turning job l cost w64 w32 w64 s
+turning-begin {job} {l} {cost} {w32} {w64} {s} e lent start f =
     record {
       lent = lent;
-      beside = b;
       holds = λ q. absurd (subst T (sym (ap (λ (z : State). z .fresh) e) ∙ q) tt);
       going =
           rw e
@@ -90,8 +94,7 @@ module _ {job : Job} {l : Links Edge} {cost : Float} {first w32 w64 : List Float
       turning-on k =
           record {
             lent = record { sized = g .lent .sized; single = h .long; double = k ∙ g .lent .double };
-            beside = h .beside;
-            holds = λ f. h .holds t e f;
+            holds = h .holds t e;
             going =
                 rw (held-then t (ap stateOf e))
                 (going-on (numerics (partsIn job l)) limit tolerance cost damping (heldIn job first) s (heldIn job w64) (g .going) t (sym (h .answer) ∙ e));

@@ -1,12 +1,11 @@
 -- From the first cost to the end, and what is left in the lent numbers. Assumes nothing.
 use mathlib.Core.Path.{_≡_, sym, ap, _∙_}
-use mathlib.Core.Bool.{Bool}
 use mathlib.Core.List.{List, _++_}
 use Prim.Native.Nat.{ℕ, _+_, _*_, _-_, _<_, _≤_}
 use native.Mathlib.Omega.{arith}
 use lib.Dec.{T}
-use lib.ListN.{length, take, drop, replicate, length-append}
-use lib.Seq.{take-at, drop-at}
+use lib.ListN.{length, take, drop, replicate, length-append, length-drop}
+use lib.Seq.{take-at, length-take-le}
 use lib.Ieee.{Float, binary32, fits}
 use Rattle.numbers.specs.Notation.{num}
 use Rattle.numbers.specs.Walks.{Ended}
@@ -17,10 +16,9 @@ use Rattle.numbers.specs.declared.Refusal.{Refusal}
 use Rattle.graph.specs.Graph.{Links}
 use Rattle.graph.specs.Lent.{poseAt}
 use Rattle.graph.specs.declared.Edge.{Edge}
-use Rattle.graph.specs.declared.Slot.{Slot}
-use Rattle.residual.specs.Costs.{costEnds, costOf}
-use Rattle.residual.specs.declared.Cost.{Cost}
-use Rattle.residual.specs.declared.Cost.the-variants as cost
+use Rattle.costs.specs.Costs.{costEnds, costOf}
+use Rattle.costs.specs.declared.Cost.{Cost}
+use Rattle.costs.specs.declared.Cost.the-variants as cost
 use Rattle.decisions.specs.Run.{iterations}
 use Rattle.decisions.specs.Machine.{stateOf, played}
 use Rattle.decisions.specs.Demand.{Held}
@@ -35,30 +33,19 @@ use Rattle.sparse_pgo.specs.declared.Job.{Job}
 use Rattle.sparse_pgo.specs.declared.Joined.{Joined}
 use Rattle.sparse_pgo.specs.declared.Answer.{Answer}
 use Rattle.sparse_pgo.specs.declared.Answer.the-variants as answer
-use Rattle.sparse_pgo.specs.Parts.{Whole, numerics, hasConverged, answerOf, whole, wholeFrom}
+use Rattle.sparse_pgo.specs.Parts.{Whole, numerics, answerOf, whole, wholeFrom}
 use Rattle.sparse_pgo.specs.Numerics.{partsOn}
 use Rattle.sparse_pgo.specs.Optimize.{given}
-use Rattle.sparse_pgo.specs.Turns.{partsIn, heldIn, triedIn, Lent, Beside, Startable, Iterated, Started, Begun}
-use Rattle.numbers.proofs.Parted.{withPart, with-part}
-use Rattle.sparse_pgo.proofs.Evaluating.{cost-had, cost-bad}
-use Rattle.sparse_pgo.proofs.Settling.{beside-same}
-use Rattle.sparse_pgo.proofs.Looping.{not-above}
+use Rattle.sparse_pgo.specs.forms.Turns.{partsIn, heldIn, Lent, Startable, Started, Begun}
+use Rattle.slices.specs.Slices.{copied}
+use Rattle.slices.proofs.Laws.{copied-whole}
+use Rattle.trials.proofs.Priced.{cost-had, cost-bad}
+use Rattle.sparse_pgo.proofs.Looping.{Iterated, not-above}
 
 -- ---- the answer, as the code comes by it
 
 pub counted : {n : Next} {s : State} {e : End} → n ≡ next.Over s e → iterations (stateOf n) < 4294967296 → s .accepted + s .rejected < 4294967296
 counted q h = rw q at h
-
-module _ (first : Float) {n : Next} where
-  pub answer-on : {s : State} → n ≡ next.On s → answer.Refused (refusal 0 0) ≡ answerOf first n
-  answer-on q = rw q
-
-  pub answer-refused : {s : State} {e : End} {r : Refusal} → n ≡ next.Over s e → e ≡ end.Refused r → answer.Refused r ≡ answerOf first n
-  answer-refused q t = rw (q, t)
-
-  pub answer-joined : {s : State} {e : End} {w : Why} {c : Bool} → n ≡ next.Over s e → e ≡ end.Stopped w → c ≡ hasConverged w
-      → answer.Joined (record { iterations = s .accepted + s .rejected; converged = c; accepted = s .accepted; rejected = s .rejected; failed = s .failed; «first_cost» = first; «last_cost» = s .cost; why = w }) ≡ answerOf first n
-  answer-joined q t h = rw (q, t, h)
 
 -- ---- from the first cost on
 
@@ -99,39 +86,28 @@ module _ (job : Job) (l : Links Edge) (before : List Float) {found : Cost} (e : 
 
 -- ---- poses in, the run, poses out, the work cleared
 
--- the poses stand in both halves of w64
-pub record BothHalves (job : Job) (poses w64 both : List Float) : Type 0 where
-  pub held : heldIn job both ≡ poses
-  pub tried : triedIn job both ≡ poses
-  pub long : length both ≡ length w64
+-- the poses stand in the first half of w64
+pub record CopiedIn (job : Job) (poses w64 in64 : List Float) : Type 0 where
+  pub held : heldIn job in64 ≡ poses
+  pub long : length in64 ≡ length w64
 
--- once they are copied into the first half, then into the second
-module _ (job : Job) (poses w64 y z : List Float) (double : length w64 ≡ job .poses * 24) (size : length poses ≡ job .poses * 12) (hy : y ≡ poses) (hz : z ≡ poses) where
-  abbrev half : ℕ
-  half = job .poses * 12
+pub copied-in : (job : Job) (poses w64 y : List Float) → length w64 ≡ job .poses * 24 → length poses ≡ job .poses * 12
+    → y ≡ copied poses (take (job .poses * 12) w64) → CopiedIn job poses w64 (y ++ drop (job .poses * 12) w64)
+copied-in job poses w64 y double size e =
+    let front : length (take (job .poses * 12) w64) ≡ job .poses * 12 = length-take-le (job .poses * 12) w64 (omega arith) in
+    let is : y ≡ poses = e ∙ copied-whole poses (take (job .poses * 12) w64) (front ∙ sym size) in
+    let n : length y ≡ job .poses * 12 = ap length is ∙ size in
+    let rest : length (drop (job .poses * 12) w64) ≡ length w64 - job .poses * 12 = length-drop (job .poses * 12) w64 in
+    record {
+      held = take-at y (drop (job .poses * 12) w64) (job .poses * 12) n ∙ is;
+      long = length-append y (drop (job .poses * 12) w64) ∙ omega arith;
+    }
 
-  abbrev one : List Float
-  one = y ++ drop (job .poses * 12) w64
+module _ {job : Job} {poses w64 in64 : List Float} (h : CopiedIn job poses w64 in64) where
+  pub in-lent : {w32 : List Float} → Lent job w32 w64 → Lent job w32 in64
+  in-lent lent = record { sized = lent .sized; single = lent .single; double = h .long ∙ lent .double }
 
-  first : take half one ≡ poses
-  first = take-at y (drop half w64) half (ap length hy ∙ size) ∙ hy
-
-  two-is : withPart half one z ≡ poses ++ poses
-  two-is = with-part half one z ∙ (rw (first, hz))
-
-  pub copied-in : BothHalves job poses w64 (withPart (job .poses * 12) (y ++ drop (job .poses * 12) w64) z)
-  copied-in =
-      let k = length-append poses poses in
-      record { held = rw two-is (take-at poses poses half size); tried = rw two-is (drop-at poses poses half size); long = rw two-is (omega arith) }
-
-module _ {job : Job} {poses w64 both : List Float} (h : BothHalves job poses w64 both) where
-  pub halves-lent : {w32 : List Float} → Lent job w32 w64 → Lent job w32 both
-  halves-lent lent = record { sized = lent .sized; single = lent .single; double = h .long ∙ lent .double }
-
-  pub halves-beside : (slot : ℕ → Slot) → Beside slot (heldIn job both) (triedIn job both)
-  halves-beside slot = rw (h .held, h .tried) (beside-same slot poses)
-
-  module _ {l : Links Edge} {a : Answer} {mid64 : List Float} (s : Started job l both a mid64) (l64 : length mid64 ≡ length both)
+  module _ {l : Links Edge} {a : Answer} {mid64 : List Float} (s : Started job l in64 a mid64) (l64 : length mid64 ≡ length in64)
       (w32 mid32 last32 last64 out : List Float) (l32 : length mid32 ≡ length w32)
       (z32 : last32 ≡ replicate (length mid32) (num 0)) (z64 : last64 ≡ replicate (length mid64) (num 0)) where
     abbrev came : Whole (List Float)
@@ -152,8 +128,9 @@ module _ {job : Job} {poses w64 both : List Float} (h : BothHalves job poses w64
           output = o ∙ ap (given out came) answered;
         }
 
-    pub begun-joined : (j : Joined) (last : List Float) → a ≡ answer.Joined j → last ≡ take (job .poses * 12) mid64 → Begun job l poses w32 w64 out a last32 last64 last
-    begun-joined j last q o = ends-with last (o ∙ come-to ∙ ap (given out came) (sym q))
+    pub begun-joined : (j : Joined) (last : List Float) → a ≡ answer.Joined j → length out ≡ length (take (job .poses * 12) mid64)
+        → last ≡ copied (take (job .poses * 12) mid64) out → Begun job l poses w32 w64 out a last32 last64 last
+    begun-joined j last q k o = ends-with last (o ∙ copied-whole (take (job .poses * 12) mid64) out k ∙ come-to ∙ ap (given out came) (sym q))
 
     pub begun-refused : (r : Refusal) (last : List Float) → a ≡ answer.Refused r → last ≡ out → Begun job l poses w32 w64 out a last32 last64 last
     begun-refused r last q o = ends-with last (o ∙ ap (given out came) (sym q))

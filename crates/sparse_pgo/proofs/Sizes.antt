@@ -1,7 +1,7 @@
 -- What a job's sizes say of the code's counts: they fit, and the parts lie within the work. Assumes nothing.
-use mathlib.Core.Path.{_≡_, _∙_}
+use mathlib.Core.Path.{_≡_}
 use mathlib.Core.List.{List, _++_}
-use Prim.Native.Nat.{ℕ, _+_, _*_, _-_, _≤_, _<_}
+use Prim.Native.Nat.{ℕ, _+_, _*_, _-_, _≤_}
 use native.Mathlib.Nat.{mul-le-mul}
 use native.Mathlib.Omega.{arith}
 use mir.Syntax.{w64}
@@ -10,10 +10,10 @@ use lib.ListN.{length, take, drop, length-append, length-drop}
 use lib.Seq.{length-take-le}
 use lib.Ieee.{Float}
 use Rattle.graph.specs.Lent.{dofOf}
-use Rattle.graph.proofs.Answers.{dof-most}
-use Rattle.solve.specs.Work.{need}
+use Rattle.graph.proofs.Degrees.{dof-most}
+use Rattle.profile.specs.Layout.{need}
 use Rattle.sparse_pgo.specs.declared.Job.{Job}
-use Rattle.sparse_pgo.specs.Turns.{Sized}
+use Rattle.sparse_pgo.specs.forms.Turns.{Sized}
 
 module _ {job : Job} (s : Sized job) where
   n-most : job .n ≤ 384
@@ -60,21 +60,3 @@ put-back n x w h e =
     let g : length (take n w) ≡ n = length-take-le n w h in
     let d : length (drop n w) ≡ length w - n = length-drop n w in
     simp length-append (omega arith)
-
--- and the accepted poses still stand within it, once they are copied in
-pub half-copied : (k : ℕ) (x w : List Float) → length w ≡ k * 24 → length x ≡ length (take (k * 12) w) → k * 12 ≤ length (x ++ drop (k * 12) w)
-half-copied k x w e f = half-within k _ (put-back (k * 12) x w (half-within k _ e) f ∙ e)
-
--- the numbers of a pose stand within each half
-module _ {job : Job} (s : Sized job) (p : ℕ) (h : p < job .poses) where
-  pub pose-fits : Fits w64 (p * 12)
-  pose-fits = omega (arith, s .poses)
-
-  pub trial-fits : Fits w64 (job .poses * 12 + p * 12)
-  trial-fits = omega (arith, s .poses)
-
-pub held-within : (k l p : ℕ) → l ≡ k * 24 → p < k → p * 12 + 12 ≤ l
-held-within k l p e h = omega arith
-
-pub trial-within : (k l p : ℕ) → l ≡ k * 24 → p < k → k * 12 + p * 12 + 12 ≤ l
-trial-within k l p e h = omega arith

@@ -11,13 +11,14 @@ use Rattle.numbers.proofs.Choices.{left}
 use Rattle.numbers.proofs.Tables.{length-table, getD-table}
 use Rattle.rotations.specs.declared.Pose.{Pose}
 use Rattle.graph.specs.Graph.{Graph, isFree, blockOf, freeCount, slotAt, linksOf}
-use Rattle.graph.specs.Lent.{Input, graphOf, none, slotIn, lentLinks}
-use Rattle.graph.specs.Table.{blockNumber, blocksOf}
+use Rattle.graph.specs.Lent.{none, slotIn, lentLinks}
+use Rattle.checks.specs.Input.{Input, graphOf}
+use Rattle.checks.specs.Table.{blockNumber, blocksOf}
 use Rattle.graph.specs.declared.Edge.{Edge}
 use Rattle.graph.specs.declared.Slot.{Slot}
 use Rattle.graph.specs.declared.Slot.the-variants.{Block, Fixed}
-use Rattle.graph.proofs.Free.{free-past}
-use Rattle.graph.proofs.Passed.{PassedGraph, slot-same}
+use Rattle.checks.proofs.Free.{free-past}
+use Rattle.checks.proofs.Passed.{PassedGraph, slot-same}
 
 module _ (i : Input) (p : PassedGraph i) where
   abbrev g : Graph Pose Edge

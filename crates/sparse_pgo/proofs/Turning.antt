@@ -13,8 +13,8 @@ use Rattle.numbers.specs.Notation.{if-then}
 use Rattle.numbers.proofs.Choices.{left}
 use Rattle.graph.specs.Graph.{Links}
 use Rattle.graph.specs.declared.Edge.{Edge}
-use Rattle.solve.specs.Work.{need}
-use Rattle.decisions.specs.Run.{heard, iterations, oneMore, afterAccepted, failing, accepting, rejecting, solved, assembled, passed}
+use Rattle.profile.specs.Layout.{need}
+use Rattle.decisions.specs.Run.{iterations, oneMore, afterAccepted, failing, accepting, rejecting, solved, assembled, passed}
 use Rattle.decisions.specs.Machine.{movedOn, stateOf}
 use Rattle.decisions.specs.declared.State.{State}
 use Rattle.decisions.specs.declared.Trial.the-variants as trial
@@ -32,7 +32,8 @@ use Rattle.decisions.specs.declared.Next.the-variants as next
 use Rattle.decisions.proofs.Ways.{turned-stop, turned-go, passed-again}
 use Rattle.sparse_pgo.specs.declared.Job.{Job}
 use Rattle.sparse_pgo.specs.Parts.{numerics}
-use Rattle.sparse_pgo.specs.Turns.{partsIn, heldIn, triedIn, Beside, Holds, accepts, Made, SolvedAgain, Turned}
+use Rattle.sparse_pgo.specs.forms.Turns.{partsIn, heldIn, Holds, Ready, Passed, accepts, Attempted, Turned}
+use Rattle.sparse_pgo.proofs.Assembling.{Made}
 
 -- ---- the state after a solve: one more accepted exactly where the trial was, and then the system is to be assembled
 
@@ -90,9 +91,39 @@ module _ (limit : ℕ) (tolerance : Float) (s : State) where
   unfolding passed if-then
   limit-stops a f e = rw (f, e)
 
+-- ---- the top, at the poses x
+
+module _ (job : Job) (l : Links Edge) (s : State) (x : List Float) where
+  abbrev due : Assembly
+  due = numerics (partsIn job l) .assemble x
+
+  -- the system stands in the work already
+  pub top-again : {w32 : List Float} → length w32 ≡ need (job .n) → s .fresh ≡ false → Ready job l s x w32 → Passed job l s x gate.Go w32
+  top-again long f r = record { long = long; answer = sym (passed-again (job .settings .limit) (job .settings .«cost_tolerance») s due f); holds = λ _. r f }
+
+  -- at the limit nothing is assembled
+  pub top-limit : {w32 : List Float} → length w32 ≡ need (job .n) → s .fresh ≡ true → leb (job .settings .limit) (iterations s) ≡ true
+      → Passed job l s x (gate.Stop (end.Stopped why.Budget)) w32
+  top-limit long f q =
+      record {
+        long = long;
+        answer = sym (limit-stops (job .settings .limit) (job .settings .«cost_tolerance») s due f q);
+        holds = λ e. let z : _≡_ {A = ℕ} 0 1 = cc in absurd (omega arith);
+      }
+
+  -- after an assembly
+  pub top-made : {w32 : List Float} {a : Assembly} {g : Gate} → s .fresh ≡ true → Made job l x a w32 → g ≡ passed (job .settings .limit) s a → Passed job l s x g w32
+  unfolding numerics
+  top-made {w32} {a} {g} f m q =
+      record {
+        long = m .long;
+        answer = q ∙ ap (passed (job .settings .limit) s) (m .answer);
+        holds = λ e. m .holds (go-steep (job .settings .limit) (job .settings .«cost_tolerance») s a f (sym q ∙ e));
+      }
+
 -- ---- a turn
 
-module _ (job : Job) (l : Links Edge) (s : State) (before : List Float) where
+module _ {job : Job} {l : Links Edge} {s : State} (before : List Float) {w32 : List Float} {g : Gate} (p : Passed job l s (heldIn job before) g w32) where
   abbrev limit : ℕ
   limit = job .settings .limit
 
@@ -106,63 +137,34 @@ module _ (job : Job) (l : Links Edge) (s : State) (before : List Float) where
   abbrev a : Assembly
   a = numerics (partsIn job l) .assemble x
 
-  module _ (w32 : List Float) (long : length w32 ≡ need (job .n)) (b : Beside (l .slot) (heldIn job before) (triedIn job before)) where
-    -- the top stops the run, and nothing has moved
-    stops : (e : End) → passed limit s a ≡ gate.Stop e → Turned job l s before (next.Over s e) w32 before
-    unfolding movedOn
-    stops e q =
-        record {
-          long = long;
-          answer = sym (turned-stop limit tolerance s a _ e q);
-          held = left _ (same-count limit tolerance s) refl;
-          beside = b;
-          holds = λ t r f. let z : _≡_ {A = ℕ} 0 1 = cc in absurd (omega arith);
-        }
-
-    pub turn-limit : s .fresh ≡ true → leb (job .settings .limit) (iterations s) ≡ true → Turned job l s before (next.Over s (end.Stopped why.Budget)) w32 before
-    turn-limit f q = stops (end.Stopped why.Budget) (limit-stops limit tolerance s a f q)
+  -- the top stops the run, and nothing has moved
+  pub turn-stop : {e : End} → g ≡ gate.Stop e → Turned job l s before (next.Over s e) w32 before
+  unfolding movedOn
+  turn-stop {e} k =
+      record {
+        long = p .long;
+        answer = sym (turned-stop limit tolerance s a _ e (sym (p .answer) ∙ k));
+        held = left _ (same-count limit tolerance s) refl;
+        holds = λ t r f. let z : _≡_ {A = ℕ} 0 1 = cc in absurd (omega arith);
+      }
 
   -- a solve follows the top
-  module _ (few : s .accepted < 4294967295) {w32 after : List Float} {r : Next} (h : SolvedAgain job l s before r w32 after) where
-    abbrev o : Outcome
-    o = heard (s .cost) (numerics (partsIn job l) .attempt x (s .damping))
-
-    solves : passed limit s a ≡ gate.Go → Turned job l s before r w32 after
-    unfolding movedOn
-    solves q =
-        record {
-          long = h .long;
-          answer = h .answer ∙ sym (turned-go limit tolerance s a _ q);
-          held =
-              h .held
-              ∙ ap (λ (z : Bool). if-then z (numerics (partsIn job l) .moved x (s .damping)) x) (sym (accepts-more limit tolerance s o few))
-              ∙ ap (λ (z : Next). if-then (ltb (s .accepted) (stateOf z .accepted)) (numerics (partsIn job l) .moved x (s .damping)) x) (sym (h .answer));
-          beside = h .beside;
-          holds = λ t e f.
-              let k : accepts o ≡ false = same-system limit tolerance s o t (sym (h .answer) ∙ e) f in
-              let y : x ≡ heldIn job after = left _ k refl ∙ sym (h .held) in
-              subst (λ (z : List Float). Holds job l z w32) y (h .holds k);
-        }
-
-    pub turn-again : s .fresh ≡ false → Turned job l s before r w32 after
-    turn-again f = solves (passed-again limit tolerance s a f)
-
-  -- after an assembly
-  module _ {w32 : List Float} {made : Assembly} {g : Gate} (m : Made job l (heldIn job before) made w32) (q : g ≡ passed (job .settings .limit) s made) where
-    made-is : made ≡ a
-    unfolding numerics
-    made-is = m .answer
-
-    passing : passed limit s a ≡ g
-    passing = ap (passed limit s) (sym made-is) ∙ sym q
-
-    pub turn-stop : {e : End} → g ≡ gate.Stop e → Beside (l .slot) (heldIn job before) (triedIn job before)
-        → Turned job l s before (next.Over s e) w32 before
-    turn-stop {e} k b = stops _ (m .long) b e (passing ∙ k)
-
-    pub turn-holds : s .fresh ≡ true → g ≡ gate.Go → Holds job l (heldIn job before) w32
-    turn-holds f k = m .holds (go-steep limit tolerance s made f (sym q ∙ k))
-
-    pub turn-go : s .accepted < 4294967295 → g ≡ gate.Go → {w32' after : List Float} {r : Next} → SolvedAgain job l s before r w32' after
-        → Turned job l s before r w32' after
-    turn-go few k h = solves few h (passing ∙ k)
+  pub turn-go : s .accepted < 4294967295 → g ≡ gate.Go → {o : Outcome} {w32' after : List Float} {r : Next} → Attempted job l s before o w32' after
+      → r ≡ solved s (job .settings .limit) (job .settings .«cost_tolerance») o → Turned job l s before r w32' after
+  unfolding movedOn
+  turn-go few k {o} {w32'} {after} {r} h e =
+      record {
+        long = h .long;
+        answer =
+            e
+            ∙ ap (solved s limit tolerance) (h .answer)
+            ∙ sym (turned-go limit tolerance s a _ (sym (p .answer) ∙ k));
+        held =
+            h .held
+            ∙ ap (λ (z : Bool). if-then z (numerics (partsIn job l) .moved x (s .damping)) x) (sym (accepts-more limit tolerance s o few))
+            ∙ ap (λ (z : Next). if-then (ltb (s .accepted) (stateOf z .accepted)) (numerics (partsIn job l) .moved x (s .damping)) x) (sym e);
+        holds = λ t q f.
+            let n : accepts o ≡ false = same-system limit tolerance s o t (sym e ∙ q) f in
+            let y : x ≡ heldIn job after = left _ n refl ∙ sym (h .held) in
+            subst (λ (z : List Float). Holds job l z w32') y (h .holds);
+      }

@@ -4,13 +4,15 @@ use mathlib.Core.Path.{_≡_}
 use mathlib.Core.List.{List, []}
 use lib.Ieee.{Float}
 use Rattle.graph.specs.Graph.{linksOf}
-use Rattle.graph.specs.Lent.{Input, graphOf, poseAt}
-use Rattle.graph.specs.Table.{checks}
-use Rattle.graph.specs.declared.Counts.{Counts}
-use Rattle.graph.specs.declared.Checked.the-variants as checked
-use Rattle.graph.proofs.Passed.{fit}
-use Rattle.residual.specs.Retraction.{unitOf}
-use Rattle.assembly.specs.Assembly.{wholeBlocks, endsBy}
+use Rattle.graph.specs.Lent.{poseAt}
+use Rattle.checks.specs.Input.{Input, graphOf}
+use Rattle.checks.specs.Table.{checks}
+use Rattle.checks.specs.declared.Counts.{Counts}
+use Rattle.checks.specs.declared.Checked.the-variants as checked
+use Rattle.checks.proofs.Passed.{fit}
+use Rattle.retraction.specs.Retraction.{unitOf}
+use Rattle.additions.specs.Additions.{wholeBlocks}
+use Rattle.assembly.specs.Assembly.{endsBy}
 use Rattle.assembly.proofs.WholeBlocks.{Alike, whole-blocks, graph-apart}
 use Rattle.sparse_pgo.specs.Numerics.{partsOn}
 use Rattle.sparse_pgo.proofs.Demands.{runParts}

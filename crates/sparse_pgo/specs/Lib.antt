@@ -1,5 +1,5 @@
 pub mod Parts
 pub mod Numerics
 pub mod Optimize
-pub mod Turns
 pub mod StarredSamples
+pub mod forms

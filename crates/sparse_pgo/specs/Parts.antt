@@ -1,26 +1,28 @@
 -- The run from its parts: first cost, assembly, solve, trial, over whatever holds the poses, on the machine of `decisions`.
 -- Document 01, "The solve and the run". X holds the poses, S is a system, D a step. Definitions only.
-use Prim.Native.Nat.{ℕ, _+_}
-use mathlib.Core.Bool.{Bool, true, false, _||_}
+use Prim.Native.Nat.{ℕ}
+use mathlib.Core.Bool.{Bool, true, false}
 use lib.Ieee.{Float}
 use Rattle.numbers.specs.Notation.{if-then}
 use Rattle.numbers.specs.Walks.{Ended, done, stopped}
 use Rattle.numbers.specs.Refusals.{refusal}
 use Rattle.numbers.specs.declared.Failure.{Failure}
 use Rattle.numbers.specs.declared.Failure.the-variants.{Numerical}
-use Rattle.graph.specs.declared.Settings.{Settings}
+use Rattle.rows.specs.declared.Settings.{Settings}
+use Rattle.decisions.specs.Run.{iterations}
 use Rattle.decisions.specs.Machine.{Numerics, Play, played}
 use Rattle.decisions.specs.declared.State.{State}
-use Rattle.decisions.specs.declared.Numerical.the-variants as numerical
 use Rattle.decisions.specs.declared.Assembly.{Assembly}
 use Rattle.decisions.specs.declared.Assembly.the-variants as assembly
 use Rattle.decisions.specs.declared.Raw.{Raw}
 use Rattle.decisions.specs.declared.Raw.the-variants as raw
 use Rattle.decisions.specs.declared.Why.{Why}
 use Rattle.decisions.specs.declared.Why.the-variants as why
+use Rattle.decisions.specs.declared.End.{End}
 use Rattle.decisions.specs.declared.End.the-variants as end
 use Rattle.decisions.specs.declared.Next.{Next}
 use Rattle.decisions.specs.declared.Next.the-variants as next
+use Rattle.trials.specs.Trials.{triedAs}
 use Rattle.sparse_pgo.specs.declared.Joined.{Joined}
 use Rattle.sparse_pgo.specs.declared.Answer.{Answer}
 use Rattle.sparse_pgo.specs.declared.Answer.the-variants as answer
@@ -56,14 +58,8 @@ module _ {X S D : Type 0} (p : Parts X S D) where
 
   -- ---- what a solve comes to, its trial not yet judged; and the poses of the trial
 
-  abbrev pub pricedAs : Ended Float → Raw
-  pricedAs (done c) = raw.Priced c
-  pricedAs (stopped k why c) = raw.Numerical numerical.Unpriced
-
-  -- a retraction that failed is tested first
   abbrev pub trialAs : Bool × X → Raw
-  trialAs (true, x) = pricedAs (p .cost x)
-  trialAs (false, x) = raw.Numerical numerical.Retraction
+  trialAs (well, x) = triedAs well (p .cost x)
 
   abbrev pub stepAs : X → Found D → Raw
   stepAs x noStep = raw.Failed
@@ -97,10 +93,11 @@ hasConverged why.Step = true
 hasConverged why.Cost = true
 hasConverged why.Damping = false
 
-abbrev pub joinedOf : Float → State → Why → Joined
-joinedOf first s w =
+-- a run that stopped so, after so many iterations
+abbrev pub joinedAfter : ℕ → Float → State → Why → Joined
+joinedAfter n first s w =
     record {
-      iterations = s .accepted + s .rejected;
+      iterations = n;
       converged = hasConverged w;
       accepted = s .accepted;
       rejected = s .rejected;
@@ -110,11 +107,17 @@ joinedOf first s w =
       why = w;
     }
 
+abbrev pub joinedOf : Float → State → Why → Joined
+joinedOf first s w = joinedAfter (iterations s) first s w
+
+abbrev pub answerAfter : ℕ → Float → State → End → Answer
+answerAfter n first s (end.Stopped w) = answer.Joined (joinedAfter n first s w)
+answerAfter n first s (end.Refused r) = answer.Refused r
+
 -- (a run over `enough` turns has ended: `played-ends` of decisions. So the first line is never used.)
 abbrev pub answerOf : Float → Next → Answer
 answerOf first (next.On s) = answer.Refused (refusal 0 0)
-answerOf first (next.Over s (end.Stopped w)) = answer.Joined (joinedOf first s w)
-answerOf first (next.Over s (end.Refused r)) = answer.Refused r
+answerOf first (next.Over s e) = answerAfter (iterations s) first s e
 
 -- ---- the whole run: first cost (20), then the machine
 

@@ -9,12 +9,12 @@ use Rattle.numbers.specs.Notation.{num, ratio, ratio32, if-then}
 use Rattle.numbers.specs.Numbers.{rounded, rooted}
 use Rattle.numbers.specs.Samples as numbers
 use Rattle.rotations.specs.declared.Transform.{Transform}
-use Rattle.rotations.specs.Rotation.{dot, cross, plus, times, wide}
-use Rattle.rotations.specs.ExpLog.{over, series, bent, upright, halved, arcSeries, angleOf, unbend, logWide, narrowedTwist, logOf}
-use Rattle.rotations.specs.Samples as rotations
-use Rattle.decisions.specs.Damping.{most, least, increased, decreased}
-use Rattle.decisions.specs.Run.{oneMore, failing, solved, heard, assembled, passed, thenSolve, turned}
-use Rattle.decisions.specs.Driven.{settled, after, driven}
+use Rattle.rotations.specs.Rotation.{dot, cross, plus, times, wide, over}
+use Rattle.exp_log.specs.ExpLog.{series, bent, upright, halved, arcSeries, angleOf, unbend, logWide, narrowedTwist, logOf}
+use Rattle.exp_log.specs.Samples as rotations
+use Rattle.decisions.specs.Damping.{lambdaMax, lambdaMin, increased, decreased}
+use Rattle.decisions.specs.Run.{oneMore, failing, solved, heard, assembled, passed, thenSolve, afterTurn}
+use Rattle.decisions.specs.Driven.{settled, afterEvent, driven}
 use Rattle.decisions.specs.Samples as decisions
 
 pub data Case : Type 0 where
@@ -45,14 +45,14 @@ identity = record { q = record { x = num 0; y = num 0; z = num 0; w = num 1 }; t
 unfoldable pub starred : List Sample
 starred =
     -- damping 1: ten raises give exactly 1e10, the eleventh passes
-    damping (decisions.raised (num 1) 10) (toBits binary32 most)
+    damping (decisions.raised (num 1) 10) (toBits binary32 lambdaMax)
     ∷ damping (decisions.failed (num 1)) 11
     -- 1e9: two raises; 1e10: one; 2⁻¹⁴⁹: 55
     ∷ damping (decisions.failed (num 1000000000)) 2
-    ∷ damping (decisions.failed most) 1
+    ∷ damping (decisions.failed lambdaMax) 1
     ∷ damping (decisions.failed (fin false 1 (negsuc 148))) 55
     -- 1e-20 accepted becomes 1e-10
-    ∷ damping (decisions.lowered (ratio32 1 100000000000000000000)) (toBits binary32 least)
+    ∷ damping (decisions.lowered (ratio32 1 100000000000000000000)) (toBits binary32 lambdaMin)
     -- √4 = 2, in f32 and in f64; √2 in f32
     ∷ number (numbers.sqrt32 0x4080_0000) 0x4000_0000
     ∷ number (numbers.sqrt64 0x4010_0000_0000_0000) 0x4000_0000_0000_0000
@@ -65,6 +65,6 @@ starred =
 
 pub starred-hold : map (λ (s : Sample). answer (s .case)) starred ≡ map (λ (s : Sample). s .gives) starred
 unfolding starred answer numbers.answer rotations.answer decisions.answer ratio ratio32 if-then add sub mul div neg lt le ofBits toBits rounded rooted
-    increased decreased driven settled after turned thenSolve passed assembled solved heard failing oneMore
+    increased decreased driven settled afterEvent afterTurn thenSolve passed assembled solved heard failing oneMore
     dot cross plus times wide over series bent upright halved arcSeries angleOf unbend logWide narrowedTwist logOf
 starred-hold = refl

@@ -1,6 +1,7 @@
 use Rattle.assembly.proofs.Edges.{both-lost, both-no-a, both-no-b, both-had}
-use Rattle.graph.proofs.Answers.{dof-most}
-use Rattle.assembly.specs.Known.{stowedProbes}
+use Rattle.jacobians.proofs.Sharing.{shared-at}
+use Rattle.residual.specs.declared.EdgeEndpoint.the-variants.{A, B}
+use Rattle.jacobians.specs.Cells.{stowedProbes}
 use borrow.Author.Needs.{needs}
 use Rattle.assembly.proofs.add_both.Statement.{statement}
 use Rattle.assembly.proofs.add_both.Tie as tie
@@ -27,9 +28,11 @@ returns : tie.Need-returns
 returns c =
     let first = c .before .before .before in
     let by = first .before .before .before .before .before in
-    let a = by .before .before .before .before .args in
+    let start = by .before .before .before .before in
+    let a = start .args in
+    let pre = start .pre in
     both-no-a (a .m) (a .n) (stowedProbes (a .known .now) (a .a)) (stowedProbes (a .known .now) (a .b)) (a .linked) (a .i) (a .k) (a .w .now)
-    (by .linked2 .given .1) (first .before .edge-endpoint-jacobian .ensures) (first .went-of .ensures) (c .before .why .given .1)
+    (by .linked2 .given .1) (shared-at (a .known .now) (a .a) (a .m) _ A (pre .4) (pre .2) (pre .5)) (first .before .edge-endpoint-jacobian .ensures) (first .went-of .ensures) (c .before .why .given .1)
 
 enum-told : tie.Need-enum-told
 enum-told c = search needs
@@ -49,10 +52,12 @@ returns-2 c =
     let told = second .before .before .before in
     let first = told .before .before in
     let by = first .before .before .before .before .before in
-    let a = by .before .before .before .before .args in
+    let start = by .before .before .before .before in
+    let a = start .args in
+    let pre = start .pre in
     both-no-b (a .m) (a .n) (stowedProbes (a .known .now) (a .a)) (stowedProbes (a .known .now) (a .b)) (a .linked) (a .i) (a .k) (a .w .now)
-    (by .linked2 .given .1) (first .before .edge-endpoint-jacobian .ensures) (first .went-of .ensures) (told .enum-told .given .1)
-    (second .before .edge-endpoint-jacobian2 .ensures) (second .went-of2 .ensures) (c .before .why2 .given .1)
+    (by .linked2 .given .1) (shared-at (a .known .now) (a .a) (a .m) _ A (pre .4) (pre .2) (pre .5)) (first .before .edge-endpoint-jacobian .ensures) (first .went-of .ensures) (told .enum-told .given .1)
+    (shared-at (a .known .now) (a .b) (a .m) _ B (pre .4) (pre .3) (pre .6)) (second .before .edge-endpoint-jacobian2 .ensures) (second .went-of2 .ensures) (c .before .why2 .given .1)
 
 enum-told-2 : tie.Need-enum-told-2
 enum-told-2 c = search needs
@@ -61,11 +66,7 @@ dof-requires : tie.Need-dof-requires
 dof-requires c κs = search needs
 
 add-ends-requires : tie.Need-add-ends-requires
-add-ends-requires c κs =
-    let first = c .before .before .before .before .before .before .before .before .before .before .before .before .before in
-    let start = first .before .before .before .before .before .before .before .before in
-    let pre = start .pre in
-    rw (c .before .before .before .dof .ensures) (pre .0, pre .1, pre .7, dof-most (start .args .m))
+add-ends-requires c κs = search needs
 
 returns-3 : tie.Need-returns-3
 returns-3 c =
@@ -84,11 +85,14 @@ returns-4 c =
     let told = second .before .before .before in
     let first = told .before .before in
     let by = first .before .before .before .before .before in
-    let a = by .before .before .before .before .args in
+    let start = by .before .before .before .before in
+    let a = start .args in
+    let pre = start .pre in
     both-had (a .m) (a .n) (stowedProbes (a .known .now) (a .a)) (stowedProbes (a .known .now) (a .b)) (a .linked) (a .i) (a .k) (a .w .now)
-    (by .linked2 .given .1) (first .before .edge-endpoint-jacobian .ensures) (first .went-of .ensures) (told .enum-told .given .1)
-    (second .before .edge-endpoint-jacobian2 .ensures) (second .went-of2 .ensures) (told2 .enum-told2 .given .1)
-    (first .before .before .before .six-of .ensures) (dof .dof .ensures) (c .before .before .add-ends .ensures)
+    (by .linked2 .given .1) (shared-at (a .known .now) (a .a) (a .m) _ A (pre .4) (pre .2) (pre .5)) (first .before .edge-endpoint-jacobian .ensures) (first .went-of .ensures) (told .enum-told .given .1)
+    (shared-at (a .known .now) (a .b) (a .m) _ B (pre .4) (pre .3) (pre .6)) (second .before .edge-endpoint-jacobian2 .ensures) (second .went-of2 .ensures) (told2 .enum-told2 .given .1)
+    (first .before .before .before .six-of .ensures) (dof .dof .ensures)
+    (record { inside = pre .0; there = pre .7 }) (record { inside = pre .1; there = pre .7 }) (c .before .before .add-ends .ensures)
 
 pub add-both-spec : {M : Type 1} → statement M
 add-both-spec =

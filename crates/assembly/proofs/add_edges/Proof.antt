@@ -1,6 +1,8 @@
 use borrow.Author.Needs.{needs}
-use Rattle.assembly.proofs.Edges.{answered, bad-edge, all-edges}
-use Rattle.assembly.specs.Assembly.{lowerTriangle, edgeStep}
+use Rattle.assembly.proofs.Edges.{bad-edge, all-edges}
+use Rattle.additions.proofs.Ends.{answered}
+use Rattle.additions.specs.Additions.{lowerTriangle}
+use Rattle.assembly.specs.Assembly.{edgeStep}
 use Rattle.graph.specs.Lent.{poseAt, lentLinks}
 use Rattle.numbers.proofs.Walking.{each-none, each-more}
 use Rattle.numbers.specs.Walks.{each, done}
@@ -22,8 +24,8 @@ abbrev μ-loop : tie.MeasureT-loop
 loop-holds : tie.Need-loop-holds Inv-loop μ-loop
 loop-holds c = (omega arith, refl, each-none _ _)
 
-add-edge-at-requires : tie.Need-add-edge-at-requires Inv-loop μ-loop
-add-edge-at-requires c κs = (c .before .before .before .before .before .before .before .before .pre .0, omega arith, omega arith)
+add-edge-requires : tie.Need-add-edge-requires Inv-loop μ-loop
+add-edge-requires c κs = (c .before .before .before .before .before .before .before .before .pre .0, omega arith, omega arith)
 
 enum-known-why : tie.Need-enum-known-why Inv-loop μ-loop
 enum-known-why c = search needs
@@ -35,7 +37,7 @@ returns : tie.Need-returns Inv-loop μ-loop
 returns c =
     let walk = c .before .before .before .before .before .before .before in
     let l = walk .before .loop in
-    bad-edge _ _ (l .k) _ (l .inv .2) (c .before .before .before .before .before .add-edge-at .ensures) (c .before .why .given .1) (walk .loop-test .taken)
+    bad-edge _ _ (l .k) _ (l .inv .2) (c .before .before .before .before .before .add-edge .ensures) (c .before .why .given .1) (walk .loop-test .taken)
 
 enum-told : tie.Need-enum-told Inv-loop μ-loop
 enum-told c = search needs
@@ -51,7 +53,7 @@ loop-again c = (
   omega arith,
   omega arith,
   each-more _ _ _ (c .before .before .before .before .before .before .before .loop .inv .2)
-      (answered (c .before .before .before .before .add-edge-at .ensures) (c .enum-told .given .1)),
+      (answered (c .before .before .before .before .add-edge .ensures) (c .enum-told .given .1)),
 )
 
 same-length-2 : tie.Need-same-length-2 Inv-loop μ-loop
@@ -67,7 +69,7 @@ add-edges-spec =
     Inv-loop
     μ-loop
     loop-holds
-    add-edge-at-requires
+    add-edge-requires
     enum-known-why
     same-length
     returns

@@ -1,6 +1,6 @@
 use Rattle.assembly.proofs.Edges.{one-lost, one-no-jacobian, one-had}
-use Rattle.graph.proofs.Answers.{dof-most}
-use Rattle.assembly.specs.Known.{stowedProbes}
+use Rattle.jacobians.proofs.Sharing.{shared-at}
+use Rattle.jacobians.specs.Cells.{stowedProbes}
 use borrow.Author.Needs.{needs}
 use Rattle.assembly.proofs.add_one.Statement.{statement}
 use Rattle.assembly.proofs.add_one.Tie as tie
@@ -27,9 +27,11 @@ returns : tie.Need-returns
 returns c =
     let first = c .before .before .before in
     let by = first .before .before .before .before .before in
-    let a = by .before .before .before .before .args in
+    let start = by .before .before .before .before in
+    let a = start .args in
+    let pre = start .pre in
     one-no-jacobian (a .m) (a .n) (stowedProbes (a .known .now) (a .x)) (a .linked) (a .end) (a .block) (a .w .now)
-    (by .linked2 .given .1) (first .before .edge-endpoint-jacobian .ensures) (first .went-of .ensures) (c .before .why .given .1)
+    (by .linked2 .given .1) (shared-at (a .known .now) (a .x) (a .m) _ (a .end) (pre .2) (pre .1) (pre .3)) (first .before .edge-endpoint-jacobian .ensures) (first .went-of .ensures) (c .before .why .given .1)
 
 enum-told : tie.Need-enum-told
 enum-told c = search needs
@@ -38,10 +40,7 @@ dof-requires : tie.Need-dof-requires
 dof-requires c κs = search needs
 
 add-end-requires : tie.Need-add-end-requires
-add-end-requires c κs =
-    let start = c .before .before .before .before .before .before .before .before .before .before .before .before .before .before .before in
-    let pre = start .pre in
-    rw (c .before .before .dof .ensures) (pre .0, pre .4, dof-most (start .args .m))
+add-end-requires c κs = search needs
 
 returns-2 : tie.Need-returns-2
 returns-2 c =
@@ -57,10 +56,13 @@ returns-3 c =
     let told = dof .before .before in
     let first = told .before .before in
     let by = first .before .before .before .before .before in
-    let a = by .before .before .before .before .args in
+    let start = by .before .before .before .before in
+    let a = start .args in
+    let pre = start .pre in
     one-had (a .m) (a .n) (stowedProbes (a .known .now) (a .x)) (a .linked) (a .end) (a .block) (a .w .now)
-    (by .linked2 .given .1) (first .before .edge-endpoint-jacobian .ensures) (first .went-of .ensures) (told .enum-told .given .1)
-    (first .before .before .before .six-of .ensures) (dof .dof .ensures) (c .before .before .add-end .ensures)
+    (by .linked2 .given .1) (shared-at (a .known .now) (a .x) (a .m) _ (a .end) (pre .2) (pre .1) (pre .3)) (first .before .edge-endpoint-jacobian .ensures) (first .went-of .ensures) (told .enum-told .given .1)
+    (first .before .before .before .six-of .ensures) (dof .dof .ensures) (record { inside = pre .0; there = pre .4 })
+    (c .before .before .add-end .ensures)
 
 pub add-one-spec : {M : Type 1} → statement M
 add-one-spec =

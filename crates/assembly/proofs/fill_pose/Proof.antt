@@ -1,6 +1,6 @@
 use mathlib.Core.Path.{sym, subst}
 use Prim.Native.Nat.{ℕ, _≤_}
-use Rattle.graph.proofs.Answers.{dof-most}
+use Rattle.graph.proofs.Degrees.{dof-most}
 use Rattle.assembly.proofs.Knowing.{probed-stance, posed-fixed, posed-free}
 use borrow.Author.Needs.{needs}
 use Rattle.assembly.proofs.fill_pose.Statement.{statement}

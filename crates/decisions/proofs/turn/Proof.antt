@@ -1,4 +1,4 @@
-use Rattle.decisions.specs.Run.{turned, thenSolve}
+use Rattle.decisions.specs.Run.{afterTurn, thenSolve}
 use borrow.Author.Needs.{needs}
 use Rattle.decisions.proofs.turn.Statement.{statement}
 use Rattle.decisions.proofs.turn.Tie as tie
@@ -19,11 +19,11 @@ after-solve-requires : tie.Need-after-solve-requires
 after-solve-requires c κs = search needs
 
 returns : tie.Need-returns
-unfolding turned thenSolve
+unfolding afterTurn thenSolve
 returns c = simp (← c .before .before .before .pass-top .ensures, c .before .w .given .1)
 
 returns-2 : tie.Need-returns-2
-unfolding turned thenSolve
+unfolding afterTurn thenSolve
 returns-2 c = simp (c .after-solve .ensures, c .before .hear .ensures, ← c .before .before .before .before .pass-top .ensures, c .before .before .enum-told .given .1)
 
 pub turn-spec : {M : Type 1} → statement M

@@ -4,7 +4,7 @@ use native.Mathlib.Omega.{arith}
 use lib.ListN.{length}
 use lib.Seq.{length-take-le}
 use denote.Ref.{now}
-use Rattle.solve.specs.Work.{need}
+use Rattle.profile.specs.Layout.{need}
 use Rattle.exports.proofs.Building.{turned-down, n-most, need-most, work-enough, unit-n, assembled-part}
 use borrow.Author.Needs.{needs}
 use Rattle.exports.proofs.assemble.Statement.{statement}

@@ -1,16 +1,16 @@
 use Rattle.exports.specs.Layers.{matrixFrom}
-use borrow.Author.Needs.{needs}
+use native.Mathlib.Omega.{arith}
 use Rattle.exports.proofs.matrix_from.Statement.{statement}
 use Rattle.exports.proofs.matrix_from.Tie as tie
 
 vec32-from-requires : tie.Need-vec32-from-requires
-vec32-from-requires c κs = search needs
+vec32-from-requires c κs = omega arith
 
 vec32-from-requires-2 : tie.Need-vec32-from-requires-2
-vec32-from-requires-2 c κs = search needs
+vec32-from-requires-2 c κs = omega arith
 
 vec32-from-requires-3 : tie.Need-vec32-from-requires-3
-vec32-from-requires-3 c κs = search needs
+vec32-from-requires-3 c κs = omega arith
 
 returns : tie.Need-returns
 unfolding matrixFrom

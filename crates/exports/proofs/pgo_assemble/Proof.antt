@@ -5,7 +5,7 @@ use Rattle.numbers.specs.Notation.{if-then}
 use Rattle.rotations.specs.declared.Vec3.{Vec3}
 use Rattle.graph.specs.declared.Manifold.{Manifold}
 use Rattle.graph.specs.declared.Manifold.the-variants.{Se3, Gravity}
-use Rattle.residual.proofs.Steps.{passed, turned-away}
+use Rattle.numbers.proofs.Steps.{passed, turned-away}
 use Rattle.exports.specs.Exported.{assembling, systemOf, assembleOut}
 use Rattle.exports.proofs.pgo_assemble.Statement.{statement}
 use Rattle.exports.proofs.pgo_assemble.Tie as tie

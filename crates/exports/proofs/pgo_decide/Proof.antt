@@ -1,87 +1,82 @@
-use Rattle.numbers.specs.Notation.{num, ratio}
-use Rattle.exports.specs.Exported.{settings, decideFrom, known, decided}
-use mathlib.Core.Path.{_≡_, refl, sym, ap, _∙_}
-use mathlib.Core.Bool.{_&&_}
+use mathlib.Core.Path.{refl, sym, ap, _∙_}
 use lib.Ieee.{ofBits}
-use lib.Dec.{eqb}
 use lib.ListN.{length}
 use denote.Ref.{now}
-use borrow.Author.Tests.{eqb-true, not-false}
-use Rattle.numbers.proofs.Tests.{and-first, and-second}
-use Rattle.residual.proofs.Steps.{passed, turned-away}
+use borrow.Author.Tests.{not-false}
+use Rattle.numbers.specs.Notation.{ratio}
+use Rattle.numbers.proofs.Steps.{passed, turned-away}
+use Rattle.exports.specs.Exported.{decidedAs, decided}
+use Rattle.exports.proofs.Telling.{fit-decide}
 use Rattle.exports.proofs.pgo_decide.Statement.{statement}
 use Rattle.exports.proofs.pgo_decide.Tie as tie
 
-known-events-requires : tie.Need-known-events-requires
-known-events-requires c κs = tt
-
-tests : (c : tie.After-known-events) → (let a = c .before .before .before .before .before .args in
-    (eqb (length (now (a .answer))) 8 && (eqb (length (now (a .costs))) 2 && (eqb (length (now (a .events))) (length (now (a .prices))) && c .known-events .result)))
-    ≡ (eqb (length (now (a .answer))) 8 && (eqb (length (now (a .costs))) 2 && (eqb (length (now (a .events))) (length (now (a .prices))) && known (now (a .events)) (length (now (a .events)))))))
-tests c = rw (c .known-events .ensures)
+decide-fits-requires : tie.Need-decide-fits-requires
+decide-fits-requires c κs = tt
 
 returns : tie.Need-returns
 unfolding decided
-returns c = turned-away _ (tests (c .before)) (c .if1 .taken) refl
+returns c =
+    let at-decide-fits = c .before in
+    turned-away _ (at-decide-fits .decide-fits .ensures) (c .if1 .taken) refl
 
-validate-settings-requires : tie.Need-validate-settings-requires
-validate-settings-requires c κs = tt
+decide-requires : tie.Need-decide-requires
+decide-requires c κs = tt
 
-enum-known-r : tie.Need-enum-known-r
-enum-known-r c = c .match .keys1
-
-put-refused-requires : tie.Need-put-refused-requires
-put-refused-requires c κs = eqb-true _ _ (and-first (eqb (length (now (c .before .before .before .before .before .before .before .before .before .before .before .args .answer))) 8) _ (not-false _ (c .before .before .before .before .before .if1 .left)))
-
-same-length : tie.Need-same-length
-same-length c = c .before .before .put-refused .kept .0
-
-returns-2 : tie.Need-returns-2
-unfolding decided ratio ofBits
-returns-2 c =
-    let a = c .before .before .before .before .before .before .before .before .before .before .before .before .before .before .args in
-    let put = c .before .before in
-    passed _ (tests (c .before .before .before .before .before .before .before .before .before)) (c .before .before .before .before .before .before .before .before .if1 .left)
-    (rw (put .put-refused .ensures) (ap (decideFrom (settings (a .limit) (a .tolerance) (num 0) (a .damping)) (a .cost) (now (a .events)) (now (a .prices)) (now (a .answer)) (now (a .costs))) (sym (c .before .before .before .before .before .r .given .1) ∙ c .before .before .before .before .before .before .before .validate-settings .ensures)))
+enum-known-a : tie.Need-enum-known-a
+enum-known-a c = c .match .keys1
 
 enum-told : tie.Need-enum-told
 enum-told c = c .match .keys2
 
-decide-requires : tie.Need-decide-requires
-decide-requires c κs =
-    let a = c .before .before .before .before .before .before .before .before .before .before .before .args in
-    let h = not-false _ (c .before .before .before .before .before .if1 .left) in (
-      eqb-true _ _ (and-first (eqb (length (now (a .answer))) 8) _ h),
-      eqb-true _ _ (and-first (eqb (length (now (a .costs))) 2) _ (and-second (eqb (length (now (a .answer))) 8) _ h)),
-      sym (c .before .before .before .before .validate-settings .ensures) ∙ c .before .before .enum-told .given .1,
-    )
+returns-2 : tie.Need-returns-2
+unfolding decided ratio ofBits
+returns-2 c =
+    let at-decide = c .before .before in
+    let at-if1 = at-decide .before in
+    let at-decide-fits = at-if1 .before in
+    let z = at-decide-fits .before .before .before .before .before in
+    passed _ (at-decide-fits .decide-fits .ensures) (at-if1 .if1 .left)
+    (ap (decidedAs (now (z .args .answer)) (now (z .args .costs))) (sym (c .enum-told .given .1) ∙ at-decide .decide .ensures))
+
+put-answer-requires : tie.Need-put-answer-requires
+put-answer-requires c κs =
+    let at-if1 = c .before .before .before .before .before .before in
+    let at-decide-fits = at-if1 .before in
+    let z = at-decide-fits .before .before .before .before .before in
+    let a = z .args in
+    fit-decide (length (now (a .answer))) (length (now (a .costs))) (now (a .events)) (now (a .prices))
+    (sym (at-decide-fits .decide-fits .ensures) ∙ not-false _ (at-if1 .if1 .left))
+
+same-length : tie.Need-same-length
+same-length c = c .before .before .before .before .put-answer .kept .0
 
 same-length-2 : tie.Need-same-length-2
-same-length-2 c = c .before .before .before .before .decide .kept .1 .1 .1 .1 .0
-
-same-length-3 : tie.Need-same-length-3
-same-length-3 c = c .before .before .before .before .decide .kept .1 .1 .1 .1 .1 .0
+same-length-2 c = c .before .before .before .before .put-answer .kept .1 .0
 
 returns-3 : tie.Need-returns-3
 unfolding decided ratio ofBits
 returns-3 c =
-    let a = c .before .before .before .before .before .before .before .before .before .before .before .before .before .before .before .before .args in
-    passed _ (tests (c .before .before .before .before .before .before .before .before .before .before .before)) (c .before .before .before .before .before .before .before .before .before .before .if1 .left)
-    (c .before .before .before .before .decide .ensures ∙ ap (decideFrom (settings (a .limit) (a .tolerance) (num 0) (a .damping)) (a .cost) (now (a .events)) (now (a .prices)) (now (a .answer)) (now (a .costs))) (sym (c .before .before .before .before .before .before .before .enum-told .given .1) ∙ c .before .before .before .before .before .before .before .before .before .validate-settings .ensures))
+    let at-put-answer = c .before .before .before .before in
+    let at-a = at-put-answer .before .before .before .before in
+    let at-decide = at-a .before .before in
+    let at-if1 = at-decide .before in
+    let at-decide-fits = at-if1 .before in
+    let z = at-decide-fits .before .before .before .before .before in
+    passed _ (at-decide-fits .decide-fits .ensures) (at-if1 .if1 .left)
+    (at-put-answer .put-answer .ensures ∙ ap (decidedAs (now (z .args .answer)) (now (z .args .costs)))
+    (sym (at-a .a .given .1) ∙ at-decide .decide .ensures))
 
 pub pgo-decide-spec : {M : Type 1} → statement M
 pgo-decide-spec =
     tie.close
     (tie.spec
-    known-events-requires
+    decide-fits-requires
     returns
-    validate-settings-requires
-    enum-known-r
-    put-refused-requires
-    same-length
-    returns-2
-    enum-told
     decide-requires
+    enum-known-a
+    enum-told
+    returns-2
+    put-answer-requires
+    same-length
     same-length-2
-    same-length-3
     returns-3)

@@ -1,11 +1,12 @@
+use mathlib.Core.Path.{refl, sym, ap}
 use lib.Dec.{eqb}
 use lib.ListN.{length}
 use denote.Ref.{now}
 use borrow.Author.Tests.{eqb-true, not-false}
 use Rattle.numbers.proofs.Tests.{and-second}
-use mathlib.Core.Path.{refl}
-use Rattle.residual.proofs.Steps.{passed, turned-away}
+use Rattle.numbers.proofs.Steps.{passed, turned-away}
 use Rattle.exports.specs.Layers.{productOut}
+use Rattle.exports.proofs.Copies.{laid}
 use Rattle.exports.proofs.pgo_product.Statement.{statement}
 use Rattle.exports.proofs.pgo_product.Tie as tie
 
@@ -22,19 +23,37 @@ transform-from-requires-2 c κs = tt
 product-of-requires : tie.Need-product-of-requires
 product-of-requires c κs = tt
 
-put-transform-requires : tie.Need-put-transform-requires
-put-transform-requires c κs =
-    let a = c .before .before .before .before .before .before .before .before .args in
-    eqb-true _ _ (and-second (eqb (length (now (a .b))) 7) _ (and-second (eqb (length (now (a .a))) 7) _ (not-false _ (c .before .before .before .before .if1 .left))))
+transform-numbers-requires : tie.Need-transform-numbers-requires
+transform-numbers-requires c κs = tt
+
+slice-aggregate-copy32 : tie.Need-slice-aggregate-copy32
+slice-aggregate-copy32 c = sym (ap length (c .before .transform-numbers .ensures))
+
+copy32-requires : tie.Need-copy32-requires
+copy32-requires c κs = tt
 
 same-length : tie.Need-same-length
-same-length c = c .before .before .put-transform .kept .0
+same-length c = c .before .before .copy32 .kept .1 .0
 
 returns-2 : tie.Need-returns-2
 unfolding productOut
 returns-2 c =
-    let put = c .before .before in
-    passed _ refl (c .before .before .before .before .before .before .before .if1 .left) (rw (put .put-transform .ensures, put .before .product-of .ensures, put .before .before .transform-from2 .ensures, put .before .before .before .transform-from .ensures))
+    let at-copy32 = c .before .before in
+    let at-transform-numbers = at-copy32 .before .before .before in
+    let at-product-of = at-transform-numbers .before in
+    let at-transform-from2 = at-product-of .before in
+    let at-transform-from = at-transform-from2 .before in
+    let at-if1 = at-transform-from .before in
+    let z = at-if1 .before .before .before .before in
+    passed _ refl (at-if1 .if1 .left)
+    (rw (
+      laid _ (now (z .args .out)) (at-transform-numbers .transform-numbers .ensures)
+          (eqb-true _ _ (and-second (eqb (length (now (z .args .b))) 7) _ (and-second (eqb (length (now (z .args .a))) 7) _ (not-false _ (at-if1 .if1 .left)))))
+          (at-copy32 .copy32 .ensures),
+      at-product-of .product-of .ensures,
+      at-transform-from2 .transform-from2 .ensures,
+      at-transform-from .transform-from .ensures,
+    ))
 
 pub pgo-product-spec : {M : Type 1} → statement M
 pgo-product-spec =
@@ -44,6 +63,8 @@ pgo-product-spec =
     transform-from-requires
     transform-from-requires-2
     product-of-requires
-    put-transform-requires
+    transform-numbers-requires
+    slice-aggregate-copy32
+    copy32-requires
     same-length
     returns-2)

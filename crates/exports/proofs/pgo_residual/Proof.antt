@@ -1,13 +1,14 @@
 use mathlib.Core.Path.{_≡_, refl, sym, ap, _∙_}
-use Rattle.residual.specs.Residuals.{residualOf}
-use Rattle.exports.specs.Layers.{pose, edge, residualOut, sixOut}
-use Rattle.exports.proofs.Steps.{one-pose, one-edge}
-use Rattle.residual.proofs.Steps.{passed, turned-away}
-use borrow.Author.Tests.{eqb-true, not-false}
 use lib.Dec.{eqb}
 use lib.ListN.{length}
 use denote.Ref.{now}
+use borrow.Author.Tests.{eqb-true, not-false}
 use Rattle.numbers.proofs.Tests.{and-second}
+use Rattle.residual.specs.Residuals.{residualOf}
+use Rattle.numbers.proofs.Steps.{passed, turned-away}
+use Rattle.exports.specs.Layers.{pose, edge, sixOut, residualOut}
+use Rattle.exports.proofs.Steps.{one-pose, one-edge}
+use Rattle.exports.proofs.Copies.{laid}
 use Rattle.exports.proofs.pgo_residual.Statement.{statement}
 use Rattle.exports.proofs.pgo_residual.Tie as tie
 
@@ -35,36 +36,56 @@ enum-told c = c .match .keys2
 
 found : (c : tie.After-weighted-relative-residual) → (let a = c .before .before .before .before .before .before .before .before .before .args in c .weighted-relative-residual .result ≡ residualOf (pose (now (a .a))) (pose (now (a .b))) (edge (now (a .edge))))
 found c =
-    let a = c .before .before .before .before .before .before .before .before .before .args in
+    let at-edge-at = c .before in
+    let at-pose-at2 = at-edge-at .before in
+    let at-pose-at = at-pose-at2 .before in
+    let z = at-pose-at .before .before .before .before .before .before in
     c .weighted-relative-residual .ensures
     ∙ rw (
-      c .before .edge-at .ensures,
-      c .before .before .pose-at2 .ensures,
-      c .before .before .before .pose-at .ensures,
-      one-pose (now (a .a)),
-      one-pose (now (a .b)),
+      at-edge-at .edge-at .ensures,
+      at-pose-at2 .pose-at2 .ensures,
+      at-pose-at .pose-at .ensures,
+      one-pose (now (z .args .a)),
+      one-pose
+          (now (z .args .b)),
       one-edge,
     )
 
 returns-2 : tie.Need-returns-2
 unfolding residualOut
-returns-2 c = passed _ refl (c .before .before .before .before .before .before .if1 .left) (ap (sixOut (now (c .before .before .before .before .before .before .before .before .before .before .before .args .out))) (sym (c .enum-told .given .1) ∙ found (c .before .before)))
+returns-2 c =
+    let at-weighted-relative-residual = c .before .before in
+    let at-if1 = at-weighted-relative-residual .before .before .before .before in
+    let z = at-if1 .before .before .before .before .before in
+    passed _ refl (at-if1 .if1 .left) (ap (sixOut (now (z .args .out))) (sym (c .enum-told .given .1) ∙ found at-weighted-relative-residual))
 
-put-twist-requires : tie.Need-put-twist-requires
-put-twist-requires c κs =
-    let a = c .before .before .before .before .before .before .before .before .before .before .before .before .before .args in
-    eqb-true _ _ (and-second (eqb (length (now (a .edge))) 8) _ (and-second (eqb (length (now (a .b))) 12) _ (and-second (eqb (length (now (a .a))) 12) _ (not-false _ (c .before .before .before .before .before .before .before .before .if1 .left)))))
+six-of-requires : tie.Need-six-of-requires
+six-of-requires c κs = tt
+
+slice-aggregate-copy32 : tie.Need-slice-aggregate-copy32
+slice-aggregate-copy32 c = sym (ap length (c .before .six-of .ensures))
+
+copy32-requires : tie.Need-copy32-requires
+copy32-requires c κs = tt
 
 same-length : tie.Need-same-length
-same-length c = c .before .before .put-twist .kept .0
+same-length c = c .before .before .copy32 .kept .1 .0
 
 returns-3 : tie.Need-returns-3
 unfolding residualOut
 returns-3 c =
-    let put = c .before .before in
-    let known = put .before .before .before in
-    passed _ refl (c .before .before .before .before .before .before .before .before .before .before .before .if1 .left)
-    (rw (put .put-twist .ensures) (ap (sixOut (now (c .before .before .before .before .before .before .before .before .before .before .before .before .before .before .before .before .args .out))) (sym (known .d .given .1) ∙ found (known .before .before))))
+    let at-copy32 = c .before .before in
+    let at-six-of = at-copy32 .before .before .before in
+    let at-d = at-six-of .before .before in
+    let at-weighted-relative-residual = at-d .before .before in
+    let at-if1 = at-weighted-relative-residual .before .before .before .before in
+    let z = at-if1 .before .before .before .before .before in
+    passed _ refl (at-if1 .if1 .left)
+    (rw (laid _ (now (z .args .out)) (at-six-of .six-of .ensures)
+    (eqb-true _ _ (and-second (eqb (length (now (z .args .edge))) 8) _
+    (and-second (eqb (length (now (z .args .b))) 12) _ (and-second (eqb (length (now (z .args .a))) 12) _ (not-false _ (at-if1 .if1 .left))))))
+    (at-copy32 .copy32 .ensures))
+    (ap (sixOut (now (z .args .out))) (sym (at-d .d .given .1) ∙ found at-weighted-relative-residual)))
 
 pub pgo-residual-spec : {M : Type 1} → statement M
 pgo-residual-spec =
@@ -78,6 +99,8 @@ pgo-residual-spec =
     enum-known-d
     enum-told
     returns-2
-    put-twist-requires
+    six-of-requires
+    slice-aggregate-copy32
+    copy32-requires
     same-length
     returns-3)

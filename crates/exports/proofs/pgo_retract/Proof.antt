@@ -1,14 +1,15 @@
 use mathlib.Core.Path.{_≡_, refl, sym, ap, _∙_}
-use Rattle.graph.specs.declared.Manifold.the-variants.{Se3}
-use Rattle.residual.specs.Retraction.{retractOf}
-use Rattle.exports.specs.Layers.{pose, retractOut, restoredOut}
-use Rattle.exports.proofs.Steps.{first-six-do, one-pose}
-use Rattle.residual.proofs.Steps.{passed, turned-away}
-use borrow.Author.Tests.{eqb-true, not-false}
 use lib.Dec.{eqb}
 use lib.ListN.{length}
 use denote.Ref.{now}
+use borrow.Author.Tests.{eqb-true, not-false}
 use Rattle.numbers.proofs.Tests.{and-second}
+use Rattle.graph.specs.declared.Manifold.the-variants.{Se3}
+use Rattle.retraction.specs.Retraction.{retractOf}
+use Rattle.numbers.proofs.Steps.{passed, turned-away}
+use Rattle.exports.specs.Layers.{pose, restoredOut, retractOut}
+use Rattle.exports.proofs.Steps.{first-six-do, one-pose}
+use Rattle.exports.proofs.Copies.{laid}
 use Rattle.exports.proofs.pgo_retract.Statement.{statement}
 use Rattle.exports.proofs.pgo_retract.Tie as tie
 
@@ -32,27 +33,45 @@ enum-told : tie.Need-enum-told
 enum-told c = c .match .keys2
 
 found : (c : tie.After-retract) → (let a = c .before .before .before .before .before .before .before .args in c .retract .result ≡ retractOf Se3 (pose (now (a .pose))) (now (a .delta)))
-found c = c .retract .ensures ∙ rw (c .before .step-from .ensures, c .before .before .pose-at .ensures, one-pose) (first-six-do _ _ _)
+found c =
+    let at-step-from = c .before in
+    let at-pose-at = at-step-from .before in
+    c .retract .ensures ∙ rw (at-step-from .step-from .ensures, at-pose-at .pose-at .ensures, one-pose) (first-six-do _ _ _)
 
 returns-2 : tie.Need-returns-2
 unfolding retractOut
-returns-2 c = passed _ refl (c .before .before .before .before .before .if1 .left) (ap (restoredOut (now (c .before .before .before .before .before .before .before .before .before .args .out))) (sym (c .enum-told .given .1) ∙ found (c .before .before)))
+returns-2 c =
+    let at-retract = c .before .before in
+    let at-if1 = at-retract .before .before .before in
+    let z = at-if1 .before .before .before .before in
+    passed _ refl (at-if1 .if1 .left) (ap (restoredOut (now (z .args .out))) (sym (c .enum-told .given .1) ∙ found at-retract))
 
-put-pose-requires : tie.Need-put-pose-requires
-put-pose-requires c κs =
-    let a = c .before .before .before .before .before .before .before .before .before .before .before .args in
-    eqb-true _ _ (and-second (eqb (length (now (a .delta))) 6) _ (and-second (eqb (length (now (a .pose))) 12) _ (not-false _ (c .before .before .before .before .before .before .before .if1 .left))))
+numbers-of-requires : tie.Need-numbers-of-requires
+numbers-of-requires c κs = tt
+
+slice-aggregate-copy64 : tie.Need-slice-aggregate-copy64
+slice-aggregate-copy64 c = sym (ap length (c .before .numbers-of .ensures))
+
+copy64-requires : tie.Need-copy64-requires
+copy64-requires c κs = tt
 
 same-length : tie.Need-same-length
-same-length c = c .before .before .put-pose .kept .0
+same-length c = c .before .before .copy64 .kept .1 .0
 
 returns-3 : tie.Need-returns-3
 unfolding retractOut
 returns-3 c =
-    let put = c .before .before in
-    let known = put .before .before .before in
-    passed _ refl (c .before .before .before .before .before .before .before .before .before .before .if1 .left)
-    (rw (put .put-pose .ensures) (ap (restoredOut (now (c .before .before .before .before .before .before .before .before .before .before .before .before .before .before .args .out))) (sym (known .p .given .1) ∙ found (known .before .before))))
+    let at-copy64 = c .before .before in
+    let at-numbers-of = at-copy64 .before .before .before in
+    let at-p = at-numbers-of .before .before in
+    let at-retract = at-p .before .before in
+    let at-if1 = at-retract .before .before .before in
+    let z = at-if1 .before .before .before .before in
+    passed _ refl (at-if1 .if1 .left)
+    (rw (laid _ (now (z .args .out)) (at-numbers-of .numbers-of .ensures)
+    (eqb-true _ _ (and-second (eqb (length (now (z .args .delta))) 6) _
+    (and-second (eqb (length (now (z .args .pose))) 12) _ (not-false _ (at-if1 .if1 .left))))) (at-copy64 .copy64 .ensures))
+    (ap (restoredOut (now (z .args .out))) (sym (at-p .p .given .1) ∙ found at-retract)))
 
 pub pgo-retract-spec : {M : Type 1} → statement M
 pgo-retract-spec =
@@ -65,6 +84,8 @@ pgo-retract-spec =
     enum-known-p
     enum-told
     returns-2
-    put-pose-requires
+    numbers-of-requires
+    slice-aggregate-copy64
+    copy64-requires
     same-length
     returns-3)

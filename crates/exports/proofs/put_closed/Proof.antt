@@ -1,102 +1,101 @@
-use mathlib.Core.Path.{sym}
+use mathlib.Core.Path.{sym, ap, _∙_}
+use lib.ListN.{length}
 use denote.Ref.{now}
-use Rattle.exports.proofs.Closings.{eight-fit, eight-long, room-left, nine-kept, ran-nine, refused-nine}
+use Rattle.exports.proofs.Closings.{nine-long, closed-ran, closed-refused}
 use Rattle.exports.proofs.put_closed.Statement.{statement}
 use Rattle.exports.proofs.put_closed.Tie as tie
+
+nine-of-requires : tie.Need-nine-of-requires
+nine-of-requires c κs = tt
+
+slice-aggregate-copy-counts : tie.Need-slice-aggregate-copy-counts
+slice-aggregate-copy-counts c =
+    let at-nine = c .before in
+    let z = at-nine .before .before .before .before in
+    sym (ap length (at-nine .nine-of .ensures) ∙ nine-long (z .args .c))
+
+copy-counts-requires : tie.Need-copy-counts-requires
+copy-counts-requires c κs = tt
 
 enum-known-c : tie.Need-enum-known-c
 enum-known-c c = c .match .keys1
 
-slice-relend-prefix-put-joined : tie.Need-slice-relend-prefix-put-joined
-slice-relend-prefix-put-joined c = let z = c .before .before .before .before .before .before in eight-fit (now (z .args .answer)) (z .pre .0)
+joined-costs-requires : tie.Need-joined-costs-requires
+joined-costs-requires c κs = tt
 
-slice-aggregate-put-joined : tie.Need-slice-aggregate-put-joined
-slice-aggregate-put-joined c = let z = c .before .before .before .before .before .before .before in sym (eight-long (now (z .args .answer)) (z .pre .0))
+slice-aggregate-copy32 : tie.Need-slice-aggregate-copy32
+slice-aggregate-copy32 c = sym (ap length (c .before .joined-costs .ensures))
 
-put-joined-requires : tie.Need-put-joined-requires
-put-joined-requires c κs = let z = c .before .before .before .before .before .before .before .before in (eight-long (now (z .args .answer)) (z .pre .0), z .pre .1)
+copy32-requires : tie.Need-copy32-requires
+copy32-requires c κs = tt
 
-flag-of-requires : tie.Need-flag-of-requires
-flag-of-requires c κs = tt
+measures-four-requires : tie.Need-measures-four-requires
+measures-four-requires c κs = tt
 
-slice-write-answer : tie.Need-slice-write-answer
-slice-write-answer c =
-    let put = c .before .before .before .before .before in
-    let z = put .before .before .before .before .before .before .before .before .before in
-    room-left (now (z .args .answer)) (z .pre .0) (put .put-joined .last .0) (put .put-joined .kept .0)
+slice-aggregate-copy64 : tie.Need-slice-aggregate-copy64
+slice-aggregate-copy64 c = sym (ap length (c .before .measures-four .ensures))
 
-put-measures-requires : tie.Need-put-measures-requires
-put-measures-requires c κs = c .before .before .before .before .before .before .before .before .before .before .before .before .before .before .before .pre .2
+copy64-requires : tie.Need-copy64-requires
+copy64-requires c κs = tt
 
 enum-known-c-2 : tie.Need-enum-known-c-2
 enum-known-c-2 c = c .match .keys2
 
-slice-relend-prefix-put-refused : tie.Need-slice-relend-prefix-put-refused
-slice-relend-prefix-put-refused c = let z = c .before .before .before .before .before .before in eight-fit (now (z .args .answer)) (z .pre .0)
-
-slice-aggregate-put-refused : tie.Need-slice-aggregate-put-refused
-slice-aggregate-put-refused c = let z = c .before .before .before .before .before .before .before in sym (eight-long (now (z .args .answer)) (z .pre .0))
-
-put-refused-requires : tie.Need-put-refused-requires
-put-refused-requires c κs = let z = c .before .before .before .before .before .before .before in eight-long (now (z .args .answer)) (z .pre .0)
-
-slice-write-answer-2 : tie.Need-slice-write-answer-2
-slice-write-answer-2 c =
-    let put = c .before .before in
-    let z = put .before .before .before .before .before .before .before .before in
-    room-left (now (z .args .answer)) (z .pre .0) (put .put-refused .last .0) (put .put-refused .kept .0)
-
 same-length : tie.Need-same-length
 same-length c =
-    let flagged = c .before .before .before .before in
-    let put = flagged .before .before .before .before .before in
-    let z = put .before .before .before .before .before .before .before .before .before in
-    nine-kept (now (z .args .answer)) (z .pre .0) (put .put-joined .last .0) (flagged .flag-of .result) (put .put-joined .kept .0)
+    let at-copy-counts = c .before .before .before .before .before .before .before .before .before .before .before .before .before .before .before .before .before in
+    at-copy-counts .copy-counts .kept .1 .0
 
 same-length-2 : tie.Need-same-length-2
-same-length-2 c = c .before .before .before .before .before .before .before .before .before .put-joined .kept .1 .0
+same-length-2 c = c .before .before .before .before .before .before .before .before .copy32 .kept .1 .0
 
 same-length-3 : tie.Need-same-length-3
-same-length-3 c = c .before .before .put-measures .kept .0
+same-length-3 c = c .before .before .copy64 .kept .1 .0
 
 returns : tie.Need-returns
 returns c =
-    let measured = c .before .before in
-    let flagged = measured .before .before in
-    let put = flagged .before .before .before .before .before in
-    let z = put .before .before .before .before .before .before .before .before .before in
-    ran-nine (now (z .args .answer)) (z .pre .0) (now (z .args .costs)) (now (z .args .measures))
-    (put .before .before .before .before .c .given .1) (put .put-joined .ensures) (flagged .flag-of .ensures) (measured .put-measures .ensures)
+    let at-copy64 = c .before .before in
+    let at-measures-four = at-copy64 .before .before .before in
+    let at-copy32 = at-measures-four .before .before .before in
+    let at-joined-costs = at-copy32 .before .before .before in
+    let at-c = at-joined-costs .before .before in
+    let at-copy-counts = at-c .before .before .before .before in
+    let at-nine = at-copy-counts .before .before .before in
+    let z = at-nine .before .before .before .before in
+    let a = z .args in
+    closed-ran (z .args .c) (now (a .answer)) (now (a .costs)) (now (a .measures)) (z .pre .0) (at-nine .nine-of .ensures)
+    (at-copy-counts .copy-counts .ensures) (at-c .c .given .1)
+    (z .pre .1) (at-joined-costs .joined-costs .ensures) (at-copy32 .copy32 .ensures) (z .pre .2) (at-measures-four .measures-four .ensures)
+    (at-copy64 .copy64 .ensures)
 
 same-length-4 : tie.Need-same-length-4
-same-length-4 c =
-    let put = c .before .before in
-    let z = put .before .before .before .before .before .before .before .before in
-    nine-kept (now (z .args .answer)) (z .pre .0) (put .put-refused .last .0) 0 (put .put-refused .kept .0)
+same-length-4 c = c .before .before .before .before .before .copy-counts .kept .1 .0
 
 returns-2 : tie.Need-returns-2
 returns-2 c =
-    let put = c .before .before in
-    let z = put .before .before .before .before .before .before .before .before in
-    refused-nine (now (z .args .answer)) (z .pre .0) (now (z .args .costs)) (now (z .args .measures))
-    (put .before .before .before .c2 .given .1) (put .put-refused .ensures)
+    let at-c2 = c .before in
+    let at-copy-counts = at-c2 .before .before .before .before in
+    let at-nine = at-copy-counts .before .before .before in
+    let z = at-nine .before .before .before .before in
+    let a = z .args in
+    closed-refused (z .args .c) (now (a .answer)) (now (a .costs)) (now (a .measures)) (z .pre .0) (at-nine .nine-of .ensures)
+    (at-copy-counts .copy-counts .ensures) (at-c2 .c2 .given .1)
 
 pub put-closed-spec : {M : Type 1} → statement M
 put-closed-spec =
     tie.close
     (tie.spec
+    nine-of-requires
+    slice-aggregate-copy-counts
+    copy-counts-requires
     enum-known-c
-    slice-relend-prefix-put-joined
-    slice-aggregate-put-joined
-    put-joined-requires
-    flag-of-requires
-    slice-write-answer
-    put-measures-requires
+    joined-costs-requires
+    slice-aggregate-copy32
+    copy32-requires
+    measures-four-requires
+    slice-aggregate-copy64
+    copy64-requires
     enum-known-c-2
-    slice-relend-prefix-put-refused
-    slice-aggregate-put-refused
-    put-refused-requires
-    slice-write-answer-2
     same-length
     same-length-2
     same-length-3

@@ -1,5 +1,5 @@
 use Rattle.exports.specs.Layers.{transformFrom}
-use borrow.Author.Needs.{needs}
+use native.Mathlib.Omega.{arith}
 use Rattle.exports.proofs.transform_from.Statement.{statement}
 use Rattle.exports.proofs.transform_from.Tie as tie
 
@@ -16,7 +16,7 @@ at32-requires-4 : tie.Need-at32-requires-4
 at32-requires-4 c κs = tt
 
 vec32-from-requires : tie.Need-vec32-from-requires
-vec32-from-requires c κs = search needs
+vec32-from-requires c κs = omega arith
 
 returns : tie.Need-returns
 unfolding transformFrom

@@ -3,7 +3,7 @@ use mathlib.Core.Path.{_∙_}
 use mathlib.Core.List.{[], _∷_}
 use borrow.Author.Needs.{needs}
 use denote.Ref.{now}
-use Rattle.numbers.proofs.Laying.{copied-whole}
+use Rattle.slices.proofs.Laws.{copied-whole}
 use Rattle.pose_graph.proofs.EdgesAlone.{result-alone, close-refused, close-joined}
 use Rattle.pose_graph.proofs.run_and_judge.Statement.{statement}
 use Rattle.pose_graph.proofs.run_and_judge.Tie as tie

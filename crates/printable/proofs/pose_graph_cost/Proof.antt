@@ -6,7 +6,8 @@ use native.Mathlib.Omega.{arith}
 use lib.ListN.{length}
 use lib.Ieee.{ofBits}
 use Rattle.numbers.specs.Notation.{ratio, _⊗_}
-use Rattle.graph.specs.Lent.{poseAt, lentGraph}
+use Rattle.graph.specs.Lent.{poseAt}
+use Rattle.checks.specs.Input.{lentGraph}
 use Rattle.printable.specs.Measures.{squaresUpTo, poseGraphCost}
 use Rattle.printable.proofs.Measuring.{squares-none, squares-more}
 use borrow.Author.Needs.{needs}

@@ -1,11 +1,10 @@
 -- `printable::residual_squared` meets its contract: the loop adds the six squares in order. Assumes nothing.
 use mathlib.Core.List.{List}
-use lib.Ieee.{Float}
+use lib.Ieee.{Float, nan, binary64}
 use mathlib.Core.Path.{_≡_, _∙_, ap, refl}
 use Prim.Native.Nat.{_-_, _≤_}
 use native.Mathlib.Omega.{arith}
 use lib.ListN.{getD}
-use lib.Ieee.{nan, binary64}
 use Rattle.numbers.specs.Notation.{_⊗_}
 use Rattle.numbers.specs.Walks.{sumOf}
 use Rattle.numbers.proofs.Walking.{sum-more}

@@ -1,5 +1,5 @@
 use mathlib.Core.Path.{refl}
-use Rattle.rotations.proofs.Steps.{turned-by, not-turned}
+use Rattle.exp_log.proofs.Steps.{turned-by, not-turned}
 use Rattle.probes.specs.Stances.{spinOf}
 use borrow.Author.Needs.{needs}
 use Rattle.probes.proofs.spin_of.Statement.{statement}

@@ -1,5 +1,5 @@
 use mathlib.Core.Path.{refl}
-use Rattle.residual.proofs.Steps.{passed, turned-away}
+use Rattle.numbers.proofs.Steps.{passed, turned-away}
 use Rattle.probes.specs.Stances.{stanceOf}
 use borrow.Author.Needs.{needs}
 use Rattle.probes.proofs.stance_of.Statement.{statement}

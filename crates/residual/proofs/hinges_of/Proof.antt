@@ -1,4 +1,4 @@
-use Rattle.rotations.specs.LogParts.{logTurns}
+use Rattle.exp_log.specs.LogParts.{logTurns}
 use Rattle.residual.specs.EdgeParts.{hingeOf, hingesOf}
 use borrow.Author.Needs.{needs}
 use Rattle.residual.proofs.hinges_of.Statement.{statement}

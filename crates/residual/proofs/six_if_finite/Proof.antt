@@ -2,7 +2,7 @@ use mathlib.Core.Path.{_≡_, refl, sym, _∙_}
 use mathlib.Core.Bool.{_&&_}
 use Rattle.numbers.proofs.Choices.{taken, left}
 use Rattle.residual.specs.Residuals.{sixIfFinite, finiteTwist}
-use Rattle.residual.proofs.Steps.{both}
+use Rattle.numbers.proofs.Steps.{both}
 use borrow.Author.Needs.{needs}
 use Rattle.residual.proofs.six_if_finite.Statement.{statement}
 use Rattle.residual.proofs.six_if_finite.Tie as tie

@@ -2,7 +2,7 @@ use mathlib.Core.Path.{refl, sym, ap, _∙_}
 use Rattle.pose_conversion.proofs.Steps.{into, not-into}
 use Rattle.pose_conversion.specs.declared.Converted.the-variants.{Into}
 use Rattle.residual.specs.EdgeParts.{undoneOf}
-use Rattle.residual.proofs.Steps.{passed, turned-away}
+use Rattle.numbers.proofs.Steps.{passed, turned-away}
 use borrow.Author.Needs.{needs}
 use Rattle.residual.proofs.undone_of.Statement.{statement}
 use Rattle.residual.proofs.undone_of.Tie as tie

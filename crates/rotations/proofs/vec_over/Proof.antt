@@ -1,5 +1,5 @@
 use mathlib.Core.Path.{refl}
-use Rattle.rotations.specs.ExpLog.{over}
+use Rattle.rotations.specs.Rotation.{over}
 use Rattle.rotations.proofs.vec_over.Statement.{statement}
 use Rattle.rotations.proofs.vec_over.Tie as tie
 

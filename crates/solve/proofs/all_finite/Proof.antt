@@ -4,15 +4,13 @@ use mathlib.Core.Bool.{Bool, true}
 use mathlib.Core.List.{List}
 use Prim.Native.Nat.{ℕ, _+_, _-_, _≤_}
 use native.Mathlib.Omega.{arith}
-use borrow.Author.Needs.{needs}
 use borrow.Author.Tests.{not-true, not-false}
 use denote.Ref.{now}
 use lib.ListN.{getD}
 use lib.Ieee.{Float, nan}
 use lib.Ieee.Scale.{finite}
 use Rattle.numbers.specs.Walks.{every}
-use Rattle.numbers.proofs.Walking.{every-more}
-use Rattle.numbers.proofs.Walking.{every-none, every-miss}
+use Rattle.numbers.proofs.Walking.{every-more, every-none, every-miss}
 use Rattle.solve.proofs.all_finite.Statement.{statement}
 use Rattle.solve.proofs.all_finite.Tie as tie
 
@@ -38,7 +36,7 @@ shared-slice-read-is-finite32 : tie.Need-shared-slice-read-is-finite32 Inv-loop 
 shared-slice-read-is-finite32 c = omega arith
 
 is-finite32-requires : tie.Need-is-finite32-requires Inv-loop μ-loop
-is-finite32-requires c κs = search needs
+is-finite32-requires c κs = tt
 
 returns : tie.Need-returns Inv-loop μ-loop
 returns c =

@@ -4,15 +4,24 @@ use Prim.Native.Nat.{suc, _-_, _≤_}
 use native.Mathlib.Omega.{arith}
 use denote.Ref.{now}
 use lib.ListN.{length, length-set}
-use Rattle.solve.specs.Profile.{backwardFrom}
+use Rattle.solve.specs.forms.Profile.{backwardFrom}
 use Rattle.solve.proofs.backward.Statement.{statement}
 use Rattle.solve.proofs.backward.Tie as tie
 
 abbrev Inv-loop : tie.InvT-loop
-Inv-loop w₀ n f i₀ w i = (i ≤ n) × (length w ≡ length w₀) × (backwardFrom w₀ n f n ≡ backwardFrom w n f i)
+Inv-loop w₀ n f x i₀ w i = (i ≤ n) × (length w ≡ length w₀) × (backwardFrom w₀ n f n ≡ backwardFrom w n f i)
 
 abbrev μ-loop : tie.MeasureT-loop
-μ-loop w₀ n f i₀ w i = i
+μ-loop w₀ n f x i₀ w i = i
+
+mul-x : tie.Need-mul-x Inv-loop μ-loop
+mul-x c = omega arith
+
+add-x : tie.Need-add-x Inv-loop μ-loop
+add-x c = omega arith
+
+add-x-2 : tie.Need-add-x-2 Inv-loop μ-loop
+add-x-2 c = omega arith
 
 loop-holds : tie.Need-loop-holds Inv-loop μ-loop
 loop-holds c = (omega arith, refl, refl)
@@ -21,22 +30,13 @@ sub-i : tie.Need-sub-i Inv-loop μ-loop
 sub-i c = omega arith
 
 back-from-requires : tie.Need-back-from-requires Inv-loop μ-loop
-back-from-requires c κs = omega arith
-
-mul-w : tie.Need-mul-w Inv-loop μ-loop
-mul-w c = omega arith
+back-from-requires c κs = (omega arith, omega arith, refl)
 
 add-w : tie.Need-add-w Inv-loop μ-loop
 add-w c = omega arith
 
-add-w-2 : tie.Need-add-w-2 Inv-loop μ-loop
-add-w-2 c = omega arith
-
-add-w-3 : tie.Need-add-w-3 Inv-loop μ-loop
-add-w-3 c = omega arith
-
-mul-w-2 : tie.Need-mul-w-2 Inv-loop μ-loop
-mul-w-2 c = omega arith
+mul-w : tie.Need-mul-w Inv-loop μ-loop
+mul-w c = omega arith
 
 slice-write-w : tie.Need-slice-write-w Inv-loop μ-loop
 slice-write-w c = omega arith
@@ -68,14 +68,14 @@ backward-spec =
     (tie.spec
     Inv-loop
     μ-loop
+    mul-x
+    add-x
+    add-x-2
     loop-holds
     sub-i
     back-from-requires
-    mul-w
     add-w
-    add-w-2
-    add-w-3
-    mul-w-2
+    mul-w
     slice-write-w
     loop-less
     loop-again

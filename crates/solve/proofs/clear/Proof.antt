@@ -6,8 +6,8 @@ use denote.Ref.{now}
 use mathlib.Core.List.{List}
 use lib.ListN.{length, set, length-set}
 use lib.Ieee.{Float, binary32, ofBits}
-use Rattle.solve.specs.Profile.{cleared}
-use Rattle.solve.proofs.Zeros.{literal-zero}
+use Rattle.solve.specs.forms.Profile.{cleared}
+use Rattle.profile.proofs.Zeros.{literal-zero}
 use Rattle.solve.proofs.clear.Statement.{statement}
 use Rattle.solve.proofs.clear.Tie as tie
 

@@ -2,12 +2,12 @@ use native.Mathlib.Omega.{arith}
 use mathlib.Core.Path.{_≡_, _∙_}
 use mathlib.Core.List.{List}
 use Prim.Native.Nat.{ℕ, _*_, _≤_}
-use borrow.Author.Needs.{needs}
 use denote.Ref.{now}
 use lib.ListN.{length}
 use lib.Ieee.{Float}
-use Rattle.solve.specs.Work.{need, workAfter}
-use Rattle.solve.specs.Profile.{stepOf, cleared, clearedRows}
+use Rattle.profile.specs.Layout.{need}
+use Rattle.solve.specs.Work.{workAfter}
+use Rattle.solve.specs.forms.Profile.{stepOf, cleared, clearedRows}
 use Rattle.solve.proofs.Places.{cleared-lower}
 use Rattle.solve.proofs.clear_lower.Statement.{statement}
 use Rattle.solve.proofs.clear_lower.Tie as tie
@@ -16,13 +16,13 @@ both : (w u v : List Float) (n : ℕ) → need n ≤ length w → u ≡ clearedR
 both w u v n long e h = h ∙ rw e (cleared-lower w n long)
 
 clear-rows-requires : tie.Need-clear-rows-requires
-clear-rows-requires c κs = search needs
+clear-rows-requires c κs = omega arith
 
 mul-clear : tie.Need-mul-clear
 mul-clear c = omega arith
 
 clear-requires : tie.Need-clear-requires
-clear-requires c κs = search needs
+clear-requires c κs = omega arith
 
 same-length : tie.Need-same-length
 same-length c = omega arith

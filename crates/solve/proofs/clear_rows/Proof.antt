@@ -6,8 +6,8 @@ use native.Mathlib.Omega.{arith}
 use denote.Ref.{now}
 use lib.ListN.{length}
 use lib.Ieee.{Float}
-use Rattle.solve.specs.Profile.{cleared, clearedRows}
-use Rattle.solve.proofs.Index.{before}
+use Rattle.solve.specs.forms.Profile.{cleared, clearedRows}
+use Rattle.profile.proofs.Index.{before}
 use Rattle.solve.proofs.clear_rows.Statement.{statement}
 use Rattle.solve.proofs.clear_rows.Tie as tie
 

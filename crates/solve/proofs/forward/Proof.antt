@@ -4,41 +4,37 @@ use native.Mathlib.Numerals.{add-one}
 use native.Mathlib.Omega.{arith}
 use denote.Ref.{now}
 use lib.ListN.{length, length-set}
-use Rattle.solve.specs.Profile.{forwardFrom}
+use Rattle.solve.specs.forms.Profile.{forwardFrom}
 use Rattle.solve.proofs.forward.Statement.{statement}
 use Rattle.solve.proofs.forward.Tie as tie
 
 abbrev Inv-loop : tie.InvT-loop
-Inv-loop w₀ n f i₀ w i = (i ≤ n) × (length w ≡ length w₀) × (w ≡ forwardFrom w₀ n f i)
+Inv-loop w₀ n f x i₀ w i = (i ≤ n) × (length w ≡ length w₀) × (w ≡ forwardFrom w₀ n f i)
 
 abbrev μ-loop : tie.MeasureT-loop
-μ-loop w₀ n f i₀ w i = n - i
+μ-loop w₀ n f x i₀ w i = n - i
+
+mul-x : tie.Need-mul-x Inv-loop μ-loop
+mul-x c = omega arith
+
+add-x : tie.Need-add-x Inv-loop μ-loop
+add-x c = omega arith
+
+add-x-2 : tie.Need-add-x-2 Inv-loop μ-loop
+add-x-2 c = omega arith
 
 loop-holds : tie.Need-loop-holds Inv-loop μ-loop
 unfolding forwardFrom
 loop-holds c = (omega arith, refl, refl)
 
 next-ahead-requires : tie.Need-next-ahead-requires Inv-loop μ-loop
-next-ahead-requires c κs =
-    let at = c .before .before in
-    let s = at .before .before in
-    let h : at .loop .i < s .args .n = omega arith in
-    (h, s .pre .1 (at .loop .i) h, omega arith)
-
-mul-w : tie.Need-mul-w Inv-loop μ-loop
-mul-w c = omega arith
+next-ahead-requires c κs = omega arith
 
 add-w : tie.Need-add-w Inv-loop μ-loop
 add-w c = omega arith
 
-add-w-2 : tie.Need-add-w-2 Inv-loop μ-loop
-add-w-2 c = omega arith
-
-add-w-3 : tie.Need-add-w-3 Inv-loop μ-loop
-add-w-3 c = omega arith
-
-mul-w-2 : tie.Need-mul-w-2 Inv-loop μ-loop
-mul-w-2 c = omega arith
+mul-w : tie.Need-mul-w Inv-loop μ-loop
+mul-w c = omega arith
 
 slice-write-w : tie.Need-slice-write-w Inv-loop μ-loop
 slice-write-w c = omega arith
@@ -70,13 +66,13 @@ forward-spec =
     (tie.spec
     Inv-loop
     μ-loop
+    mul-x
+    add-x
+    add-x-2
     loop-holds
     next-ahead-requires
-    mul-w
     add-w
-    add-w-2
-    add-w-3
-    mul-w-2
+    mul-w
     slice-write-w
     add-i
     loop-less

@@ -1,12 +1,11 @@
 use borrow.Author.Tests.{lt-ltb, le-ltb}
-use borrow.Author.Needs.{needs}
-use Rattle.solve.specs.Profile.{leftOut}
-use Rattle.solve.proofs.Zeros.{literal-zero}
+use Rattle.solve.specs.forms.Profile.{leftOut}
+use Rattle.profile.proofs.Zeros.{literal-zero}
 use Rattle.solve.proofs.left_out.Statement.{statement}
 use Rattle.solve.proofs.left_out.Tie as tie
 
 first-of-requires : tie.Need-first-of-requires
-first-of-requires c κs = search needs
+first-of-requires c κs = tt
 
 returns : tie.Need-returns
 unfolding leftOut

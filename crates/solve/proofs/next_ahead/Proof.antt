@@ -1,56 +1,72 @@
-use mathlib.Core.Path.{_∙_}
-use Prim.Native.Nat.{_≤_}
+use Prim.Native.Nat.{_+_, _*_, _≤_}
 use native.Mathlib.Omega.{arith}
-use borrow.Author.Needs.{needs}
-use denote.Ref.{now}
-use lib.Ieee.{neg}
-use Rattle.solve.specs.Work.{gradientOf}
-use Rattle.solve.proofs.Sums.{start-low}
+use Rattle.solve.specs.forms.Profile.{aheadFrom}
+use Rattle.profile.proofs.Index.{before}
 use Rattle.solve.proofs.next_ahead.Statement.{statement}
 use Rattle.solve.proofs.next_ahead.Tie as tie
 
+-- line i is within the matrix
+own : (c : tie.Start) → c .args .i * c .args .n + c .args .n ≤ c .args .n * c .args .n
+own c = before (c .args .n) (c .args .i) (c .args .n) (c .pre .0)
+
+mul-d : tie.Need-mul-d
+mul-d c = omega arith
+
+add-g : tie.Need-add-g
+add-g c = omega arith
+
+add-v : tie.Need-add-v
+add-v c = omega arith
+
+mul-v : tie.Need-mul-v
+mul-v c = omega arith
+
+shared-slice-read-v : tie.Need-shared-slice-read-v
+shared-slice-read-v c = omega arith
+
+mul-less : tie.Need-mul-less
+mul-less c = omega (arith, own (c .before .before))
+
+add-less : tie.Need-add-less
+add-less c = omega arith
+
 first-of-requires : tie.Need-first-of-requires
-first-of-requires c κs = search needs
-
-mul-start : tie.Need-mul-start
-mul-start c = omega arith
-
-add-start : tie.Need-add-start
-add-start c = omega arith
-
-add-start-2 : tie.Need-add-start-2
-add-start-2 c = omega arith
-
-mul-start-2 : tie.Need-mul-start-2
-mul-start-2 c = omega arith
-
-shared-slice-read-start : tie.Need-shared-slice-read-start
-shared-slice-read-start c = omega arith
+first-of-requires c κs = tt
 
 start-requires : tie.Need-start-requires
-start-requires c κs = search needs
+start-requires c κs = tt
 
-ahead-from-requires : tie.Need-ahead-from-requires
-ahead-from-requires c κs =
-    let a = c .before .before .before .before .args in
-    let g : c .start .result ≤ a .i =
-    rw (c .start .ensures)
-    (start-low (neg (gradientOf (now (a .w)) (a .n) (a .i))) (a .i) (c .before .before .first-of .result) 0 (rw (c .before .before .first-of .ensures) (c .before .before .before .before .pre .1)) (omega arith)) in
-    omega arith
+less-requires : tie.Need-less-requires
+less-requires c κs = omega (arith, own (c .before .before .before .before))
+
+add-result : tie.Need-add-result
+add-result c = omega arith
+
+mul-result : tie.Need-mul-result
+mul-result c = omega arith
+
+shared-slice-read-result : tie.Need-shared-slice-read-result
+shared-slice-read-result c = omega arith
 
 returns : tie.Need-returns
-returns c = c .ahead-from .ensures ∙ rw (c .before .start .ensures, c .before .before .before .first-of .ensures)
+unfolding aheadFrom
+returns c = rw (c .before .less .ensures, c .before .before .start .ensures, c .before .before .before .first-of .ensures)
 
 pub next-ahead-spec : {M : Type 1} → statement M
 next-ahead-spec =
     tie.close
     (tie.spec
+    mul-d
+    add-g
+    add-v
+    mul-v
+    shared-slice-read-v
+    mul-less
+    add-less
     first-of-requires
-    mul-start
-    add-start
-    add-start-2
-    mul-start-2
-    shared-slice-read-start
     start-requires
-    ahead-from-requires
+    less-requires
+    add-result
+    mul-result
+    shared-slice-read-result
     returns)

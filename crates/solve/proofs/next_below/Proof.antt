@@ -1,9 +1,8 @@
 use mathlib.Core.Path.{sym, _∙_}
 use Prim.Native.Nat.{_+_, _*_, _≤_}
 use native.Mathlib.Omega.{arith}
-use borrow.Author.Needs.{needs}
-use Rattle.solve.specs.Profile.{nextBelow}
-use Rattle.solve.proofs.Index.{before}
+use Rattle.solve.specs.forms.Profile.{nextBelow}
+use Rattle.profile.proofs.Index.{before}
 use Rattle.solve.proofs.next_below.Statement.{statement}
 use Rattle.solve.proofs.next_below.Tie as tie
 
@@ -12,7 +11,7 @@ own : (c : tie.Start) → c .args .k * c .args .n + c .args .n ≤ c .args .n * 
 own c = before (c .args .n) (c .args .k) (c .args .n) (c .pre .1)
 
 left-out-requires : tie.Need-left-out-requires
-left-out-requires c κs = search needs
+left-out-requires c κs = tt
 
 returns : tie.Need-returns
 unfolding nextBelow
@@ -30,27 +29,18 @@ mul-result-2 c = omega (arith, own (c .before .before .before))
 shared-slice-read-result : tie.Need-shared-slice-read-result
 shared-slice-read-result c = omega (arith, own (c .before .before .before .before))
 
-mul-result-3 : tie.Need-mul-result-3
-mul-result-3 c = omega arith
-
 add-result-2 : tie.Need-add-result-2
 add-result-2 c = omega arith
 
-add-result-3 : tie.Need-add-result-3
-add-result-3 c = omega arith
-
-add-result-4 : tie.Need-add-result-4
-add-result-4 c = omega arith
-
-mul-result-4 : tie.Need-mul-result-4
-mul-result-4 c = omega arith
+mul-result-3 : tie.Need-mul-result-3
+mul-result-3 c = omega arith
 
 shared-slice-read-result-2 : tie.Need-shared-slice-read-result-2
 shared-slice-read-result-2 c = omega arith
 
 returns-2 : tie.Need-returns-2
 unfolding nextBelow
-returns-2 c = rw (sym (c .before .before .before .left-out .ensures) ∙ c .before .before .if1 .left)
+returns-2 c = let at = c .before .before .before in rw (sym (at .left-out .ensures) ∙ c .before .before .if1 .left, at .before .before .pre .3)
 
 pub next-below-spec : {M : Type 1} → statement M
 next-below-spec =
@@ -62,10 +52,7 @@ next-below-spec =
     add-result
     mul-result-2
     shared-slice-read-result
-    mul-result-3
     add-result-2
-    add-result-3
-    add-result-4
-    mul-result-4
+    mul-result-3
     shared-slice-read-result-2
     returns-2)

@@ -1,56 +1,66 @@
-use mathlib.Core.Path.{_∙_}
 use Prim.Native.Nat.{_+_, _*_, _≤_}
 use native.Mathlib.Omega.{arith}
-use borrow.Author.Needs.{needs}
-use denote.Ref.{now}
-use Rattle.solve.specs.Work.{matrixOf}
-use Rattle.solve.proofs.Index.{before}
-use Rattle.solve.proofs.Sums.{start-low}
+use Rattle.solve.specs.forms.Profile.{entryFrom}
+use Rattle.profile.proofs.Index.{before}
 use Rattle.solve.proofs.next_entry.Statement.{statement}
 use Rattle.solve.proofs.next_entry.Tie as tie
 
--- line j is within the matrix
-own : (c : tie.Start) → c .args .j * c .args .n + c .args .n ≤ c .args .n * c .args .n
-own c = before (c .args .n) (c .args .j) (c .args .n) (omega arith)
+-- lines i and j are within the matrix
+lines : (c : tie.Start) → (c .args .i * c .args .n + c .args .n ≤ c .args .n * c .args .n) × (c .args .j * c .args .n + c .args .n ≤ c .args .n * c .args .n)
+lines c = (before (c .args .n) (c .args .i) (c .args .n) (c .pre .0), before (c .args .n) (c .args .j) (c .args .n) (omega arith))
+
+mul-q : tie.Need-mul-q
+mul-q c = omega (arith, lines (c .before))
+
+add-v : tie.Need-add-v
+add-v c = omega (arith, lines (c .before))
+
+mul-v : tie.Need-mul-v
+mul-v c = omega (arith, lines (c .before))
+
+shared-slice-read-v : tie.Need-shared-slice-read-v
+shared-slice-read-v c = omega (arith, lines (c .before .before))
 
 first-of-requires : tie.Need-first-of-requires
-first-of-requires c κs = search needs
-
-mul-start : tie.Need-mul-start
-mul-start c = omega (arith, own (c .before .before))
-
-add-start : tie.Need-add-start
-add-start c = omega (arith, own (c .before .before))
-
-mul-start-2 : tie.Need-mul-start-2
-mul-start-2 c = omega (arith, own (c .before .before))
-
-shared-slice-read-start : tie.Need-shared-slice-read-start
-shared-slice-read-start c = omega (arith, own (c .before .before .before))
+first-of-requires c κs = tt
 
 start-requires : tie.Need-start-requires
-start-requires c κs = search needs
+start-requires c κs = tt
 
-entry-from-requires : tie.Need-entry-from-requires
-entry-from-requires c κs =
-    let s = c .before .before .before .before in
-    let a = s .args in
-    let f = c .before .before .first-of in
-    let g : c .start .result ≤ a .j = rw (c .start .ensures) (start-low (matrixOf (now (a .w)) (a .n) (a .i) (a .j)) (a .j) (a .s) (f .result) (omega arith) (rw (f .ensures) (s .pre .3))) in
-    omega arith
+less-requires : tie.Need-less-requires
+less-requires c κs = omega (arith, lines (c .before .before .before .before))
+
+mul-result : tie.Need-mul-result
+mul-result c = omega arith
+
+add-result : tie.Need-add-result
+add-result c = omega arith
+
+mul-result-2 : tie.Need-mul-result-2
+mul-result-2 c = omega arith
+
+shared-slice-read-result : tie.Need-shared-slice-read-result
+shared-slice-read-result c = omega arith
 
 returns : tie.Need-returns
-returns c = c .entry-from .ensures ∙ rw (c .before .start .ensures, c .before .before .before .first-of .ensures)
+unfolding entryFrom
+returns c =
+    let at = c .before .before in
+    rw (c .before .less .ensures, at .start .ensures, at .before .first-of .ensures, at .before .before .before .before .pre .3)
 
 pub next-entry-spec : {M : Type 1} → statement M
 next-entry-spec =
     tie.close
     (tie.spec
+    mul-q
+    add-v
+    mul-v
+    shared-slice-read-v
     first-of-requires
-    mul-start
-    add-start
-    mul-start-2
-    shared-slice-read-start
     start-requires
-    entry-from-requires
+    less-requires
+    mul-result
+    add-result
+    mul-result-2
+    shared-slice-read-result
     returns)

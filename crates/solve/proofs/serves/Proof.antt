@@ -1,11 +1,10 @@
-use borrow.Author.Needs.{needs}
 use Rattle.solve.specs.Rule.{serves}
-use Rattle.solve.proofs.Zeros.{literal-zero}
+use Rattle.profile.proofs.Zeros.{literal-zero}
 use Rattle.solve.proofs.serves.Statement.{statement}
 use Rattle.solve.proofs.serves.Tie as tie
 
 is-finite32-requires : tie.Need-is-finite32-requires
-is-finite32-requires c κs = search needs
+is-finite32-requires c κs = tt
 
 returns : tie.Need-returns
 unfolding serves

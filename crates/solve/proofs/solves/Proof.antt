@@ -3,13 +3,12 @@ use mathlib.Core.Path.{_≡_}
 use mathlib.Core.Bool.{Bool, true, false}
 use mathlib.Core.List.{List}
 use Prim.Native.Nat.{ℕ}
-use borrow.Author.Needs.{needs}
 use borrow.Author.Tests.{not-true, not-false}
 use denote.Ref.{now}
 use lib.Ieee.{Float}
 use lib.Ieee.Scale.{finite}
 use Rattle.numbers.specs.Walks.{every}
-use Rattle.solve.specs.Profile.{stepOf, rowsFrom, forwardFrom, backwardFrom, substituteFrom, solvedFrom}
+use Rattle.solve.specs.forms.Profile.{stepOf, rowsFrom, forwardFrom, backwardFrom, substituteFrom, solvedFrom}
 use Rattle.solve.proofs.solves.Statement.{statement}
 use Rattle.solve.proofs.solves.Tie as tie
 
@@ -23,7 +22,7 @@ module _ (w x : List Float) (n : ℕ) (f : List ℕ) (d : Float) (r : Bool) (e :
   goes h y z b hy hz hb = rw (← e, h, ← hy, ← hz, hb)
 
 factor-requires : tie.Need-factor-requires
-factor-requires c κs = search needs
+factor-requires c κs = c .before .before .pre
 
 same-length : tie.Need-same-length
 same-length c = omega arith
@@ -35,10 +34,10 @@ returns c =
     fails (now (a .w)) (at .factor .last .0) (a .n) (now (a .f)) (a .damping) (at .factor .result) (at .factor .ensures) (not-true _ (c .if1 .taken))
 
 forward-requires : tie.Need-forward-requires
-forward-requires c κs = search needs
+forward-requires c κs = omega arith
 
 backward-requires : tie.Need-backward-requires
-backward-requires c κs = search needs
+backward-requires c κs = omega arith
 
 mul-all-finite : tie.Need-mul-all-finite
 mul-all-finite c = omega arith
@@ -50,7 +49,7 @@ add-all-finite-2 : tie.Need-add-all-finite-2
 add-all-finite-2 c = omega arith
 
 all-finite-requires : tie.Need-all-finite-requires
-all-finite-requires c κs = search needs
+all-finite-requires c κs = omega arith
 
 same-length-2 : tie.Need-same-length-2
 same-length-2 c = omega arith

@@ -1,0 +1,4 @@
+pub mod Costing
+pub mod Depends
+pub mod Stowing
+pub mod HadCost

@@ -1,0 +1,3 @@
+pub mod Stowed
+pub mod Costs
+pub mod Samples

@@ -1,0 +1,3 @@
+pub mod ExpLog
+pub mod LogParts
+pub mod Samples

@@ -1,0 +1,9 @@
+use mathlib.Core.Path.{refl}
+use Rattle.exports.proofs.closing_fits.Statement.{statement}
+use Rattle.exports.proofs.closing_fits.Tie as tie
+
+returns : tie.Need-returns
+returns c = refl
+
+pub closing-fits-spec : {M : Type 1} → statement M
+closing-fits-spec = tie.close (tie.spec returns)

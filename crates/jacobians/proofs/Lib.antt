@@ -1,0 +1,4 @@
+pub mod Going
+pub mod SideBySide
+pub mod Sharing
+pub mod Parting

@@ -1,0 +1,3 @@
+pub mod Jacobians
+pub mod FromProbes
+pub mod Cells
