@@ -15,7 +15,7 @@ use Rattle.profile.specs.Layout.{need}
 abbrev pub cell : List (List Float) → ℕ → ℕ → Float
 cell j k i = getD (getD j k []) i nan
 
--- a block of dof unknowns stands within the n unknowns, and the work has room for them
+-- the work has room for n unknowns, and block b of at most six stands among them
 abbrev pub fits : ℕ → ℕ → ℕ → ℕ → Bool
 fits n dof b len = leb (need n) len && (leb dof 6 && (leb b n && leb (b * dof + dof) n))
 

@@ -39,7 +39,7 @@ pub struct Checks {
     pub blocks: [u32; 256],
 }
 
-// ---- reading
+// ---- the ends of an edge
 
 fn end_a(ends: &[u32], k: usize) -> usize
     requires { ⌜ k < 2 ^ 62 ⌝ }
@@ -322,7 +322,7 @@ fn island_rows(v: Verdict, labels: &[u32; 256], n: usize) -> Verdict
     Verdict::Fine
 }
 
-// ---- rows 12 to 14
+// ---- rows 1 to 14 and 26, and the blocks
 
 fn settled(v: Verdict, counts: Counts) -> Checked
     ensures { λ r. ⌜ r ≡ settle v counts ⌝ }
@@ -364,7 +364,7 @@ pub fn validate_pose_graph(
     }
 }
 
-// ---- rows 15 to 19: the settings
+// ---- all rows
 
 // Rows 1 to 19 and 26, and the blocks.
 pub fn validate_optimizer_inputs(

@@ -1,4 +1,4 @@
--- A turn by cases: what is shown of each way that a turn can go holds of `turned`. Assumes nothing.
+-- A turn by cases: what is shown of each way that a turn can go holds of `afterTurn`. Assumes nothing.
 use mathlib.Core.Path.{_≡_, refl, sym, ap, _∙_, subst}
 use mathlib.Core.Bool.{Bool, true, false}
 use Prim.Native.Nat.{ℕ, _<_}

@@ -39,7 +39,6 @@ use rows::Room;
 use rows::Settings;
 use solve::Solved;
 use sparse_pgo::Answer;
-use sparse_pgo::Joined;
 
 const UNFIT: u32 = 4294967295;
 

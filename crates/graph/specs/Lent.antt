@@ -1,12 +1,10 @@
--- What the lent numbers mean: poses of twelve f64, ends of two u32, edges of eight f32, a list of fixed poses. Definitions only.
+-- What the lent numbers mean: poses of twelve f64, ends of two u32, edges of eight f32, an array of blocks. Definitions only.
 use Prim.Native.Nat.{ℕ, _+_, _*_, _/_}
-use mathlib.Core.Bool.{Bool}
 use mathlib.Core.List.{List, [], _∷_}
 use lib.ListN.{length, getD}
-use lib.Dec.{eqb, ltb}
+use lib.Dec.{ltb}
 use lib.Ieee.{Float, nan}
-use Rattle.numbers.specs.Notation.{num, if-then}
-use Rattle.numbers.specs.Walks.{some}
+use Rattle.numbers.specs.Notation.{if-then}
 use Rattle.rotations.specs.Rotation.{vec}
 use Rattle.rotations.specs.declared.Pose.{Pose}
 use Rattle.graph.specs.declared.Edge.{Edge}
@@ -14,7 +12,7 @@ use Rattle.graph.specs.declared.Slot.{Slot}
 use Rattle.graph.specs.declared.Slot.the-variants.{Block, Fixed}
 use Rattle.graph.specs.declared.Manifold.{Manifold}
 use Rattle.graph.specs.declared.Manifold.the-variants.{Se3, Gravity}
-use Rattle.graph.specs.Graph.{Graph, Links}
+use Rattle.graph.specs.Graph.{Links}
 
 -- degrees of freedom a pose
 abbrev pub dofOf : Manifold → ℕ

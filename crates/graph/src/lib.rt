@@ -1,5 +1,4 @@
-// The graph checks: refusals 1 to 19 of document 01 and 26 of document 02, free poses and their blocks (validate_optimizer_inputs and validate_pose_graph
-// of sparse_pgo.rs). Everything is lent shared, so a refusal can change nothing.
+// What lent numbers mean: poses of twelve f64, edges of eight f32, the blocks of poses. Past the end of what is lent a NaN stands, or no block.
 ghost use mathlib.Core.Path.{_≡_};
 ghost use Prim.Native.Nat.{_+_, _^_, _<_};
 ghost use lib.ListN.{getD};
@@ -33,8 +32,6 @@ pub enum Slot {
     Block(usize),
     Fixed,
 }
-
-// ---- reading
 
 // Degrees of freedom a pose.
 pub fn dof(m: Manifold) -> usize

@@ -1,4 +1,4 @@
--- The Jacobian of an edge from the cells in which an assembly keeps what it knows of the poses, eight numbers each (`residual`'s Stowed): first the transforms
+-- The Jacobian of an edge from the cells in which an assembly keeps what it knows of the poses, eight numbers each (Stowed of costs): first the transforms
 -- of the first 256 poses, then twelve cells a pose, of its probes ahead along each axis and of its probes behind. All shifts have one hinge, that of the
 -- first probe. `proofs/Sharing` says that where the shifts share their quaternion this is what `FromProbes` says. Definitions only.
 use Prim.Native.Nat.{ℕ, _+_, _*_}

@@ -27,8 +27,8 @@ use Rattle.residual.specs.declared.EdgeEndpoint.{EdgeEndpoint}
 use Rattle.residual.specs.declared.EdgeEndpoint.the-variants.{A, B}
 
 -- the number in row k and column i replaced
-abbrev pub put : List (List Float) → ℕ → ℕ → Float → List (List Float)
-put j k i v = set j k (set (getD j k []) i v)
+abbrev pub putAt : List (List Float) → ℕ → ℕ → Float → List (List Float)
+putAt j k i v = set j k (set (getD j k []) i v)
 
 -- the residual with one end moved by δ
 unfoldable pub movedResidual : Manifold → Pose → Pose → Edge → EdgeEndpoint → List Float → Residual
@@ -60,7 +60,7 @@ columnOf m a b e end c =
 
 -- a column filled in, row by row
 abbrev pub putSix : List (List Float) → ℕ → Twist → List (List Float)
-putSix j c d = put (put (put (put (put (put j 0 c (d.t .x)) 1 c (d.t .y)) 2 c (d.t .z)) 3 c (d.r .x)) 4 c (d.r .y)) 5 c (d.r .z)
+putSix j c d = putAt (putAt (putAt (putAt (putAt (putAt j 0 c (d.t .x)) 1 c (d.t .y)) 2 c (d.t .z)) 3 c (d.r .x)) 4 c (d.r .y)) 5 c (d.r .z)
 
 unfoldable pub columnStep : Manifold → Pose → Pose → Edge → EdgeEndpoint → ℕ → List (List Float) → Went × List (List Float)
 columnStep m a b e end c j = withSix (columnOf m a b e end c) (λ d. (Well, putSix j c d)) (λ why. (Bad why, j))

@@ -143,7 +143,7 @@ fn put_six(j: &mut [[f32; 6]; 6], c: usize, d: Twist)
 }
 
 // What a step says as a number, since an enum can't be lent.
-pub fn code_of(went: Went) -> u32
+fn code_of(went: Went) -> u32
     ensures { λ r. ⌜ r ≡ codeOf went ⌝ }
 {
     match went {

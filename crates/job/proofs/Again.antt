@@ -14,7 +14,7 @@ use Rattle.job.specs.declared.Read.{Read}
 use Rattle.job.specs.declared.Read.the-variants as read
 use Rattle.job.specs.declared.Written.the-variants as written
 use Rattle.job.specs.Bytes.{valuesAt, pasted}
-use Rattle.job.specs.Format.{Job, Space, space, tallyOf, encoded, sizeOf, Reading, taken, refused, reading, roomIn, filled, settingsFrom, given, readInto}
+use Rattle.job.specs.Format.{Job, Space, space, tallyOf, encoded, sizeOf, Reading, taken, refused, reading, roomIn, filled, settingsFrom, readGives, readInto}
 use Rattle.job.specs.Format.{settingNumbers, jobOf, writtenInto}
 use Rattle.job.proofs.Bytewise.{Bytes}
 use Rattle.job.proofs.Along.{job-same}
@@ -63,7 +63,7 @@ module _ (room : Tally) (s : List ℕ) (t : Tally) (j : Job) (e : reading room s
       ∙ ap (λ (x : ℕ). (written.Bytes x, pasted 0 (encoded j) out)) n
       ∙ ap (λ (x : List ℕ). (written.Bytes (length s), pasted 0 x out)) w
 
-pub given-taken : (x : Reading) (l l' : Space) (t : SettingBits) (had : Tally) → (read.Job t had, l') ≡ given l x
+pub given-taken : (x : Reading) (l l' : Space) (t : SettingBits) (had : Tally) → (read.Job t had, l') ≡ readGives l x
     → (j : Job) × (x ≡ taken had j) × (t ≡ settingsFrom (j .settings)) × (l' ≡ filled j l)
 given-taken (taken h j) l l' t had e =
     let q = ap (λ (y : Read × Space). y .0) e in

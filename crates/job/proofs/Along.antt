@@ -15,8 +15,8 @@ use Rattle.job.specs.Bytes.{valueAt, valuesAt, bytesFrom}
 use Rattle.job.specs.declared.Tally.{Tally}
 use Rattle.job.specs.declared.Cursor.{Cursor}
 use Rattle.job.specs.declared.Step.the-variants as step
-use Rattle.job.specs.Format.{Job, nothing, recordOf, settingsRecord, poseRecord, edgeRecord, fixedRecord, kindAt, lengthAt, start}
-use Rattle.job.specs.Format.{counted, behind, numbersIf, holding, stepOf}
+use Rattle.job.specs.Format.{Job, emptyJob, recordOf, settingsRecord, poseRecord, edgeRecord, fixedRecord, kindAt, lengthAt, start}
+use Rattle.job.specs.Format.{counted, behind, numbersIf, holding, recordStep}
 use Rattle.job.proofs.Stepping.{Kind, settings as of-settings, pose as of-pose, edge as of-edge, fixed as of-fixed, end as of-end}
 use Rattle.job.proofs.Stepping.{Fault-free, fault-free, rises, first, room-for-pose, room-for-edge, room-for-fixed, Went-on, went-on}
 use Rattle.job.proofs.Firsts.{Comes, begins, passes}
@@ -31,7 +31,7 @@ recordsOf t j =
     ++ strung (fixedRecord (j .fixed)) (t .fixed)
 
 pub record Along (room : Tally) (s : List ℕ) (c : Cursor) (j : Job) : Type 0 where
-  pub before : c .last ≡ 0 → (c ≡ start) × (j ≡ nothing)
+  pub before : c .last ≡ 0 → (c ≡ start) × (j ≡ emptyJob)
   pub settings : 0 < c .last → j .settings ≡ valuesAt 4 4 s 4
   pub opened : 0 < c .last → (kindAt s 0 ≡ 1) × (20 ≤ length s)
   pub poses : length (j .poses) ≡ 12 * c .had .poses
@@ -50,7 +50,7 @@ pub record Along (room : Tally) (s : List ℕ) (c : Cursor) (j : Job) : Type 0 w
 pub four-settings : {room : Tally} {s : List ℕ} {c : Cursor} {j : Job} → Along room s c j → 0 < c .last → length (j .settings) ≡ 4
 four-settings {s} a h = ap length (a .settings h) ∙ length-table (λ i. valueAt 4 s (4 + 4 * i)) 4
 
-pub along-start : (room : Tally) (s : List ℕ) → Along room s start nothing
+pub along-start : (room : Tally) (s : List ℕ) → Along room s start emptyJob
 along-start room s =
     record {
       before = λ e. (refl, refl);
@@ -142,9 +142,9 @@ behind-settings : (s : List ℕ) → kindAt s 0 ≡ 1 → lengthAt s 0 ≡ 16 �
 unfolding if-then
 behind-settings s k l = behind-as s start 1 16 k l
 
-holding-settings : (s : List ℕ) → kindAt s 0 ≡ 1 → holding s 0 nothing ≡ jobWith (valuesAt 4 4 s 4) [] [] [] []
+holding-settings : (s : List ℕ) → kindAt s 0 ≡ 1 → holding s 0 emptyJob ≡ jobWith (valuesAt 4 4 s 4) [] [] [] []
 unfolding if-then
-holding-settings s k = holding-as s 0 nothing 1 k
+holding-settings s k = holding-as s 0 emptyJob 1 k
 
 -- ---- the records with one more
 
@@ -316,7 +316,7 @@ module _ (room : Tally) (s : List ℕ) where
   along-to : {c' d : Cursor} {i i' : Job} → d ≡ c' → i ≡ i' → Along room s c' i' → Along room s d i
   along-to {c'} {d} {i} {i'} x y a = subst (λ (z : Cursor). Along room s z i) (sym x) (subst (λ (z : Job). Along room s c' z) (sym y) a)
 
-  pub along-on : (c d : Cursor) (j : Job) → Along room s c j → stepOf room s c ≡ step.On d → Along room s d (holding s (c .at) j)
+  pub along-on : (c d : Cursor) (j : Job) → Along room s c j → recordStep room s c ≡ step.On d → Along room s d (holding s (c .at) j)
   along-on c d j a e =
       let w = went-on room s c d e in
       let h = fault-free room s c (w .fine) in

@@ -16,8 +16,8 @@ use Rattle.job.specs.declared.Tally.{Tally}
 use Rattle.job.specs.declared.Cursor.{Cursor}
 use Rattle.job.specs.declared.Step.the-variants as step
 use Rattle.job.specs.Bytes.{valuesAt, bytesFrom}
-use Rattle.job.specs.Format.{Job, nothing, tallyOf, settingsRecord, poseRecord, edgeRecord, fixedRecord, endRecord, encoded}
-use Rattle.job.specs.Format.{kindAt, isRecord, mayFollow, isFull, faultOf, start, counted, stepFrom, stepOf, holding, taken, reading, CursorIn}
+use Rattle.job.specs.Format.{Job, emptyJob, tallyOf, settingsRecord, poseRecord, edgeRecord, fixedRecord, endRecord, encoded}
+use Rattle.job.specs.Format.{kindAt, isRecord, mayFollow, isFull, faultOf, start, counted, stepFrom, recordStep, holding, taken, reading, CursorIn}
 use Rattle.job.proofs.Pasting.{length-strung}
 use Rattle.job.proofs.Stepping.{from, from-start, from-on, from-done, cursor-start}
 use Rattle.job.proofs.Encoding.{length-bytesFrom, length-recordOf, length-settingsRecord, length-poseRecord, length-edgeRecord, length-fixedRecord}
@@ -68,13 +68,13 @@ module _ (room : Tally) (s : List ℕ) (c : Cursor) where
 
   goes-on : (kind len : ℕ) → kind < 5 → Header s (c .at) kind len → isRecord kind len ≡ true
       → mayFollow (c .last) kind ≡ true → isFull room (c .had) kind ≡ false
-      → stepOf room s c ≡ step.On (record { at = c .at + 4 + len; last = kind; had = counted kind (c .had) })
-  unfolding stepOf if-then
+      → recordStep room s c ≡ step.On (record { at = c .at + 4 + len; last = kind; had = counted kind (c .had) })
+  unfolding recordStep if-then
   goes-on kind len u h r f l =
       ap (stepFrom s c) (no-fault kind len h r f l) ∙ simp (h .length-is, h .kind-is, ne-eqb kind 5 (λ q. omega arith))
 
-  is-done : Header s (c .at) 5 0 → 0 < c .last → c .last ≤ 5 → length s ≡ c .at + 4 → stepOf room s c ≡ step.Done
-  unfolding stepOf if-then isRecord isFull
+  is-done : Header s (c .at) 5 0 → 0 < c .last → c .last ≤ 5 → length s ≡ c .at + 4 → recordStep room s c ≡ step.Done
+  unfolding recordStep if-then isRecord isFull
   is-done h u v e =
       ap (stepFrom s c) (no-fault 5 0 h refl (may-follow (c .last) 5 u v (lit< tt)) refl)
       ∙ simp (h .kind-is, le-ltb (c .at + 4) (length s) (omega arith))
@@ -210,14 +210,14 @@ module _ (room : Tally) (j : Job) (p e f : ℕ) (s : List ℕ) where
         moved (omega arith) (stands-second to-fixed endRecord (20 + 100 * p + 44 * e + 8 * f) length-to-fixed all-stands)
 
     -- a turn over each kind of record
-    settings-turn : from room s start nothing ≡ from room s (now 0 0 0 1) (firsts j 0 0 0)
+    settings-turn : from room s start emptyJob ≡ from room s (now 0 0 0 1) (firsts j 0 0 0)
     unfolding isRecord mayFollow isFull if-then
     settings-turn =
         let body = bytesFrom 4 4 (j .settings) 0 in
         let st : Stands s 0 settings-part = stands-first settings-part poses-part to-poses-stands in
         let h = header-stands 1 16 body (length-bytesFrom 4 4 (j .settings) 0) (lit< tt) (lit< tt) st in
-        turn room s start (now 0 0 0 1) nothing (firsts j 0 0 0) 1 16 (cursor-start s) (lit< tt) h refl refl refl refl
-        (holds-settings s 0 nothing (h .kind-is) (j .settings)
+        turn room s start (now 0 0 0 1) emptyJob (firsts j 0 0 0) 1 16 (cursor-start s) (lit< tt) h refl refl refl refl
+        (holds-settings s 0 emptyJob (h .kind-is) (j .settings)
         (values-stand 4 (λ k. getD (j .settings) (0 + k) 0) 4 (λ k. settings-wide (0 + k)) (body-stands 1 body st)
         ∙ more-taken (j .settings) 0 4 (omega arith) ∙ take-all 4 (j .settings) (omega arith)))
 

@@ -10,7 +10,7 @@ use borrow.Author.Tests.{lt-ltb, le-ltb, eq-eqb, ne-eqb}
 use Rattle.numbers.specs.Refusals.{refusal, says}
 use Rattle.numbers.specs.declared.Verdict.the-variants.{Fine}
 use Rattle.numbers.proofs.Choices.{taken, left}
-use Rattle.job.specs.Format.{lengthAt, kindAt, isRecord, mayFollow, isFull, faultOf, endFaults, counted, closed, stepOf}
+use Rattle.job.specs.Format.{lengthAt, kindAt, isRecord, mayFollow, isFull, faultOf, endFaults, counted, closed, recordStep}
 use Rattle.job.specs.declared.Tally.{Tally}
 use Rattle.job.specs.declared.Cursor.{Cursor}
 use Rattle.job.specs.declared.Step.{Step}
@@ -24,8 +24,8 @@ pub nothing-behind : (s : List ℕ) (at : ℕ) → length s ≤ at → Done ≡ 
 nothing-behind s at h = rw (le-ltb at (length s) h)
 
 module _ (room : Tally) (s : List ℕ) (c : Cursor) (r : Step) (within : c .at ≤ length s) where
-  pub cut-head : length s - c .at < 4 → r ≡ Stop (refusal 31 (c .at)) → r ≡ stepOf room s c
-  unfolding stepOf faultOf
+  pub cut-head : length s - c .at < 4 → r ≡ Stop (refusal 31 (c .at)) → r ≡ recordStep room s c
+  unfolding recordStep faultOf
   cut-head l e = rw (lt-ltb (length s) (c .at + 4) (omega arith)) e
 
   -- there is a header: a length and a kind, whether they fit each other, and whether the kind fits the record before
@@ -40,13 +40,13 @@ module _ (room : Tally) (s : List ℕ) (c : Cursor) (r : Step) (within : c .at �
         → not (isRecord (kindAt s (c .at)) (lengthAt s (c .at)) && mayFollow (c .last) (kindAt s (c .at))) ≡ b
     placed h b t = rw (← (h .0), ← (h .1), ← (h .2), ← (h .3)) t
 
-    pub misplaced : Header → not (fit && follow) ≡ true → r ≡ Stop (refusal 30 (c .at)) → r ≡ stepOf room s c
-    unfolding stepOf faultOf
+    pub misplaced : Header → not (fit && follow) ≡ true → r ≡ Stop (refusal 30 (c .at)) → r ≡ recordStep room s c
+    unfolding recordStep faultOf
     misplaced h t e = rw (headed, placed h true t) e
 
     module _ (h : Header) (t : not (fit && follow) ≡ false) where
-      pub cut-body : length s - c .at - 4 < len → r ≡ Stop (refusal 31 (c .at)) → r ≡ stepOf room s c
-      unfolding stepOf faultOf
+      pub cut-body : length s - c .at - 4 < len → r ≡ Stop (refusal 31 (c .at)) → r ≡ recordStep room s c
+      unfolding recordStep faultOf
       cut-body l e = rw (headed, placed h false t, ← (h .0), lt-ltb (length s) (c .at + 4 + len) (omega arith)) e
 
       -- the body is there; whether its kind is full
@@ -57,8 +57,8 @@ module _ (room : Tally) (s : List ℕ) (c : Cursor) (r : Step) (within : c .at �
         filled : (b : Bool) → full ≡ b → isFull room (c .had) (kindAt s (c .at)) ≡ b
         filled b u = rw (← (h .1), ← f) u
 
-        pub too-many : full ≡ true → r ≡ Stop (refusal 32 (c .at)) → r ≡ stepOf room s c
-        unfolding stepOf faultOf
+        pub too-many : full ≡ true → r ≡ Stop (refusal 32 (c .at)) → r ≡ recordStep room s c
+        unfolding recordStep faultOf
         too-many u e = rw (headed, placed h false t, bodied, filled true u) e
 
         module _ (u : full ≡ false) where
@@ -66,10 +66,10 @@ module _ (room : Tally) (s : List ℕ) (c : Cursor) (r : Step) (within : c .at �
           unfolding faultOf
           fine = rw (headed, placed h false t, bodied, filled false u)
 
-          pub ended : kind ≡ 5 → r ≡ closed (says (endFaults s) (c .at + 4)) → r ≡ stepOf room s c
-          unfolding stepOf
+          pub ended : kind ≡ 5 → r ≡ closed (says (endFaults s) (c .at + 4)) → r ≡ recordStep room s c
+          unfolding recordStep
           ended k e = rw fine (taken _ (eq-eqb _ 5 (sym (h .1) ∙ k)) e)
 
-          pub onwards : (kind ≡ 5 → ⊥) → r ≡ On (record { at = c .at + 4 + len; last = kind; had = counted kind (c .had) }) → r ≡ stepOf room s c
-          unfolding stepOf
+          pub onwards : (kind ≡ 5 → ⊥) → r ≡ On (record { at = c .at + 4 + len; last = kind; had = counted kind (c .had) }) → r ≡ recordStep room s c
+          unfolding recordStep
           onwards k e = rw fine (left _ (ne-eqb _ 5 (λ q. k (h .1 ∙ q))) (rw (← (h .0), ← (h .1)) e))

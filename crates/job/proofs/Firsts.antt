@@ -17,14 +17,14 @@ use Rattle.job.specs.declared.Tally.{Tally}
 use Rattle.job.specs.declared.Cursor.{Cursor}
 use Rattle.job.specs.declared.Step.{Step}
 use Rattle.job.specs.declared.Step.the-variants as step
-use Rattle.job.specs.Format.{Job, kindAt, faultOf, endFaults, behind, closed, stepFrom, stepOf}
-use Rattle.job.specs.Format.{holding, taken, refused, reading, start, nothing, CursorIn}
+use Rattle.job.specs.Format.{Job, kindAt, faultOf, endFaults, behind, closed, stepFrom, recordStep}
+use Rattle.job.specs.Format.{holding, taken, refused, reading, start, emptyJob, CursorIn}
 use Rattle.job.proofs.Stepping.{cursor-on, cursor-start, from, from-start, from-on, from-done, from-stop}
 
 -- reading comes to a cursor, with a job: over records without a fault
 pub data Comes (room : Tally) (s : List ℕ) : Cursor → Job → Type 0 where
-  begins : Comes room s start nothing
-  passes : {c d : Cursor} {j : Job} → Comes room s c j → stepOf room s c ≡ step.On d → Comes room s d (holding s (c .at) j)
+  begins : Comes room s start emptyJob
+  passes : {c d : Cursor} {j : Job} → Comes room s c j → recordStep room s c ≡ step.On d → Comes room s d (holding s (c .at) j)
 
 module _ (room : Tally) (s : List ℕ) where
   pub comes-in : {c : Cursor} {j : Job} → Comes room s c j → CursorIn s c
@@ -36,22 +36,22 @@ module _ (room : Tally) (s : List ℕ) where
   comes-from begins = from-start room s
   comes-from (passes {c = c} {d = d} {j = j} w e) = comes-from w ∙ from-on room s c d j (comes-in w) e
 
-  pub there-taken : {c : Cursor} {j : Job} → Comes room s c j → stepOf room s c ≡ step.Done → reading room s ≡ taken (c .had) j
+  pub there-taken : {c : Cursor} {j : Job} → Comes room s c j → recordStep room s c ≡ step.Done → reading room s ≡ taken (c .had) j
   there-taken {c} {j} w e = comes-from w ∙ from-done room s c j e
 
-  pub there-refused : {c : Cursor} {j : Job} {r : Refusal} → Comes room s c j → stepOf room s c ≡ step.Stop r → reading room s ≡ refused r
+  pub there-refused : {c : Cursor} {j : Job} {r : Refusal} → Comes room s c j → recordStep room s c ≡ step.Stop r → reading room s ≡ refused r
   there-refused {c} {j} {r} w e = comes-from w ∙ from-stop room s c j r e
 
   -- it comes to a last record, or to one that it refuses
   data Halts : Type 0 where
-    done : (c : Cursor) (j : Job) → Comes room s c j → stepOf room s c ≡ step.Done → Halts
-    stops : (c : Cursor) (j : Job) (r : Refusal) → Comes room s c j → stepOf room s c ≡ step.Stop r → Halts
+    done : (c : Cursor) (j : Job) → Comes room s c j → recordStep room s c ≡ step.Done → Halts
+    stops : (c : Cursor) (j : Job) (r : Refusal) → Comes room s c j → recordStep room s c ≡ step.Stop r → Halts
 
   halts-from : (n : ℕ) (c : Cursor) (j : Job) → Comes room s c j → length s - c .at < n → Halts
   halts-from zero c j w h = absurd (omega arith)
-  halts-from (suc n) c j w h = go (stepOf room s c) refl (λ (d : Cursor). halts-from n d (holding s (c .at) j))
+  halts-from (suc n) c j w h = go (recordStep room s c) refl (λ (d : Cursor). halts-from n d (holding s (c .at) j))
     where
-      go : (x : Step) → stepOf room s c ≡ x → ((d : Cursor) → Comes room s d (holding s (c .at) j) → length s - d .at < n → Halts) → Halts
+      go : (x : Step) → recordStep room s c ≡ x → ((d : Cursor) → Comes room s d (holding s (c .at) j) → length s - d .at < n → Halts) → Halts
       go step.Done e next = done c j w e
       go (step.Stop r) e next = stops c j r w e
       go (step.On d) e next =
@@ -60,7 +60,7 @@ module _ (room : Tally) (s : List ℕ) where
           next d (passes w e) (omega arith)
 
   halts : Halts
-  halts = halts-from (suc (length s)) start nothing begins (omega arith)
+  halts = halts-from (suc (length s)) start emptyJob begins (omega arith)
 
 taken-not-refused : {t : Tally} {j : Job} {r : Refusal} → taken t j ≡ refused r → ⊥
 taken-not-refused e = let z : _≡_ {A = ℕ} 0 1 = cc in omega arith
@@ -76,19 +76,19 @@ taken-job e = cc
 
 -- the refusal is that of the first record that has a fault
 pub refused-there : (room : Tally) (s : List ℕ) (r : Refusal) → reading room s ≡ refused r
-    → (c : Cursor) × (j : Job) × Comes room s c j × (stepOf room s c ≡ step.Stop r)
+    → (c : Cursor) × (j : Job) × Comes room s c j × (recordStep room s c ≡ step.Stop r)
 refused-there room s r e = go (halts room s)
   where
-    go : Halts room s → (c : Cursor) × (j : Job) × Comes room s c j × (stepOf room s c ≡ step.Stop r)
+    go : Halts room s → (c : Cursor) × (j : Job) × Comes room s c j × (recordStep room s c ≡ step.Stop r)
     go (done c j w x) = absurd (taken-not-refused (sym (there-taken room s w x) ∙ e))
     go (stops c j q w x) = (c, j, w, x ∙ ap (λ (y : Refusal). step.Stop y) (refused-same (sym (there-refused room s w x) ∙ e)))
 
 -- what is taken ends at an end record, with what was counted and held on the way
 pub taken-there : (room : Tally) (s : List ℕ) (t : Tally) (j : Job) → reading room s ≡ taken t j
-    → (c : Cursor) × Comes room s c j × (stepOf room s c ≡ step.Done) × (t ≡ c .had)
+    → (c : Cursor) × Comes room s c j × (recordStep room s c ≡ step.Done) × (t ≡ c .had)
 taken-there room s t j e = go (halts room s)
   where
-    go : Halts room s → (c : Cursor) × Comes room s c j × (stepOf room s c ≡ step.Done) × (t ≡ c .had)
+    go : Halts room s → (c : Cursor) × Comes room s c j × (recordStep room s c ≡ step.Done) × (t ≡ c .had)
     go (done c i w x) =
         let q : taken (c .had) i ≡ taken t j = sym (there-taken room s w x) ∙ e in
         (c, subst (λ (y : Job). Comes room s c y) (taken-job q) w, x, sym (taken-tally q))
@@ -108,9 +108,9 @@ asked-stop : (b : Bool) (n p : ℕ) (r : Refusal) → closed (ask b n p) ≡ ste
 asked-stop true n p r e = (refl, sym (stop-same e))
 asked-stop false n p r e = absurd (let z : _≡_ {A = ℕ} 0 1 = cc in omega arith)
 
-pub stop-is : (room : Tally) (s : List ℕ) (c : Cursor) (r : Refusal) → stepOf room s c ≡ step.Stop r
+pub stop-is : (room : Tally) (s : List ℕ) (c : Cursor) (r : Refusal) → recordStep room s c ≡ step.Stop r
     → (faultOf room s c ≡ verdict.Refused r) ⊎ Byte-after room s c r
-unfolding stepOf if-then
+unfolding recordStep if-then
 stop-is room s c r e = go (faultOf room s c) (eqb (kindAt s (c .at)) 5) refl refl e
   where
     go : (v : Verdict) (b : Bool) → faultOf room s c ≡ v → eqb (kindAt s (c .at)) 5 ≡ b → stepFrom s c v ≡ step.Stop r
@@ -126,8 +126,8 @@ stop-is room s c r e = go (faultOf room s c) (eqb (kindAt s (c .at)) 5) refl ref
         inr (p, eqb-true (kindAt s (c .at)) 5 k, ltb-true (c .at + 4) (length s) (y .0), y .1)
 
 pub is-stop : (room : Tally) (s : List ℕ) (c : Cursor) (r : Refusal)
-    → (faultOf room s c ≡ verdict.Refused r) ⊎ Byte-after room s c r → stepOf room s c ≡ step.Stop r
-unfolding stepOf if-then
+    → (faultOf room s c ≡ verdict.Refused r) ⊎ Byte-after room s c r → recordStep room s c ≡ step.Stop r
+unfolding recordStep if-then
 is-stop room s c r (inl e) = ap (stepFrom s c) e
 is-stop room s c r (inr h) =
     ap (stepFrom s c) (h .0)

@@ -18,8 +18,8 @@ use Rattle.job.specs.declared.Cursor.{Cursor}
 use Rattle.job.specs.declared.Step.the-variants as step
 use Rattle.job.specs.declared.Scanned.the-variants as scanned
 use Rattle.job.specs.Bytes.{valuesAt, pasted}
-use Rattle.job.specs.Format.{Job, kindAt, lengthAt, isFull, faultOf, one, behind, stepOf, numbersIf, holding, Reading, reading}
-use Rattle.job.specs.Format.{start, nothing, Space, space, roomIn, filled, CursorIn, scannedAs, IsTaken, taking, filledBy}
+use Rattle.job.specs.Format.{Job, kindAt, lengthAt, isFull, faultOf, one, behind, recordStep, numbersIf, holding, Reading, reading}
+use Rattle.job.specs.Format.{start, emptyJob, Space, space, roomIn, filled, CursorIn, scannedAs, IsTaken, taking, filledBy}
 use Rattle.job.proofs.Pasting.{pasted-none, pasted-more, length-pasted}
 use Rattle.job.proofs.Stepping.{Kind, settings, pose, edge, fixed, end, fault-free, room-for-pose, room-for-edge, room-for-fixed, went-on}
 use Rattle.job.proofs.Stepping.{cursor-on, cursor-start, from, from-start, from-on, from-done, from-stop}
@@ -32,10 +32,10 @@ pub record Seen (room : Tally) (s : List ℕ) (c : Cursor) : Type 0 where
   pub is : reading room s ≡ from room s c job
 
 abbrev pub seen-start : (room : Tally) (s : List ℕ) → Seen room s start
-seen-start room s = record { cursor = cursor-start s; job = nothing; is = from-start room s }
+seen-start room s = record { cursor = cursor-start s; job = emptyJob; is = from-start room s }
 
 module _ {room : Tally} {s : List ℕ} {c : Cursor} (h : Seen room s c) where
-  abbrev pub seen-on : (d : Cursor) → stepOf room s c ≡ step.On d → Seen room s d
+  abbrev pub seen-on : (d : Cursor) → recordStep room s c ≡ step.On d → Seen room s d
   seen-on d e =
       record {
         cursor = cursor-on room s c d (h .cursor) e .0;
@@ -43,16 +43,16 @@ module _ {room : Tally} {s : List ℕ} {c : Cursor} (h : Seen room s c) where
         is = h .is ∙ from-on room s c d (h .job) (h .cursor) e;
       }
 
-  pub seen-less : (d : Cursor) → stepOf room s c ≡ step.On d → length s - d .at < length s - c .at
+  pub seen-less : (d : Cursor) → recordStep room s c ≡ step.On d → length s - d .at < length s - c .at
   seen-less d e =
       let w = cursor-on room s c d (h .cursor) e in
       let a = w .1 in let b = w .0 .0 in
       omega arith
 
-  pub seen-done : stepOf room s c ≡ step.Done → scanned.Whole (c .had) ≡ scannedAs (reading room s)
+  pub seen-done : recordStep room s c ≡ step.Done → scanned.Whole (c .had) ≡ scannedAs (reading room s)
   seen-done e = sym (ap scannedAs (h .is ∙ from-done room s c (h .job) e))
 
-  pub seen-stop : (r : Refusal) → stepOf room s c ≡ step.Stop r → scanned.Refused r ≡ scannedAs (reading room s)
+  pub seen-stop : (r : Refusal) → recordStep room s c ≡ step.Stop r → scanned.Refused r ≡ scannedAs (reading room s)
   seen-stop r e = sym (ap scannedAs (h .is ∙ from-stop room s c (h .job) r e))
 
 -- ---- a record of a kind: it is whole, there is room for what it holds, and that is what is taken
@@ -187,7 +187,7 @@ more : (b : Bool) (p n : ℕ) (xs ys l : List ℕ) → length xs ≡ p → lengt
 more b p n xs ys l e f h = let z = length-if b n ys f in pasted-more 0 p xs (numbersIf b ys) l (omega arith) (omega arith)
 
 -- over one record
-module _ {room : Tally} {s : List ℕ} {l₀ : Space} {c : Cursor} {l : Space} (h : Held room s l₀ c l) (d : Cursor) (e : stepOf room s c ≡ step.On d) where
+module _ {room : Tally} {s : List ℕ} {l₀ : Space} {c : Cursor} {l : Space} (h : Held room s l₀ c l) (d : Cursor) (e : recordStep room s c ≡ step.On d) where
   abbrev k : ℕ
   k = kindAt s (c .at)
 
@@ -265,11 +265,11 @@ module _ {room : Tally} {s : List ℕ} {l₀ : Space} {c : Cursor} {l : Space} (
   pub same-room : room ≡ roomIn l
   same-room = h .room-is ∙ sym (let n = same-lengths in rw (n .0, n .1, n .2, n .3))
 
-  pub may-take : (d : Cursor) → stepOf room s c ≡ step.On d → CursorIn s c × (faultOf (roomIn l) s c ≡ verdict.Fine)
+  pub may-take : (d : Cursor) → recordStep room s c ≡ step.On d → CursorIn s c × (faultOf (roomIn l) s c ≡ verdict.Fine)
   may-take d e = (h .seen .cursor, subst (λ (r : Tally). faultOf r s c ≡ verdict.Fine) same-room (went-on room s c d e .fine))
 
-  pub held-done : stepOf room s c ≡ step.Done → l ≡ filledBy (reading room s) l₀
+  pub held-done : recordStep room s c ≡ step.Done → l ≡ filledBy (reading room s) l₀
   held-done e = h .now ∙ sym (ap (λ (x : Reading). filledBy x l₀) (h .seen .is ∙ from-done room s c (h .seen .job) e))
 
-  pub never-stops : (r : Refusal) → stepOf room s c ≡ step.Stop r → IsTaken (reading room s) → ⊥
+  pub never-stops : (r : Refusal) → recordStep room s c ≡ step.Stop r → IsTaken (reading room s) → ⊥
   never-stops r e t = subst IsTaken (h .seen .is ∙ from-stop room s c (h .seen .job) r e) t

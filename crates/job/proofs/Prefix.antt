@@ -21,8 +21,8 @@ use Rattle.job.specs.declared.Cursor.{Cursor}
 use Rattle.job.specs.declared.Step.{Step}
 use Rattle.job.specs.declared.Step.the-variants as step
 use Rattle.job.specs.Bytes.{valueAt, valuesAt}
-use Rattle.job.specs.Format.{Job, kindAt, lengthAt, isRecord, mayFollow, isFull, faultOf, counted, stepFrom, stepOf, readAtMost}
-use Rattle.job.specs.Format.{holding, onward, readFrom, reading, start, nothing}
+use Rattle.job.specs.Format.{Job, kindAt, lengthAt, isRecord, mayFollow, isFull, faultOf, counted, stepFrom, recordStep, readAtMost}
+use Rattle.job.specs.Format.{holding, readOn, readFrom, reading, start, emptyJob}
 use Rattle.job.proofs.Stepping.{Kind, settings, pose, edge, fixed, end, kind-of, fault-free, first, room-for-pose, room-for-edge, room-for-fixed}
 use Rattle.job.proofs.Stepping.{went-on, enough, cursor-start}
 
@@ -80,7 +80,7 @@ passed room c k n i (fixed p q) u f r =
     })
 passed room c k n i (end p q) u f r = absurd (u p)
 
-within-on : (room : Tally) (s : List ℕ) (c d : Cursor) → Within room c → stepOf room s c ≡ step.On d → Within room d
+within-on : (room : Tally) (s : List ℕ) (c d : Cursor) → Within room c → recordStep room s c ≡ step.On d → Within room d
 within-on room s c d i e =
     let w = went-on room s c d e in
     let h = fault-free room s c (w .fine) in
@@ -149,8 +149,8 @@ module _ (room : Tally) (s : List ℕ) (b : ℕ) (most : readAtMost room ≤ b) 
         value-seen 2 (c .at + 2) (omega arith),
       )
 
-  step-same : (c : Cursor) → c .at + 101 ≤ b → stepOf room (take b s) c ≡ stepOf room s c
-  unfolding stepOf
+  step-same : (c : Cursor) → c .at + 101 ≤ b → recordStep room (take b s) c ≡ recordStep room s c
+  unfolding recordStep
   step-same c h = ap (stepFrom (take b s) c) (fault-same c h) ∙ from-same c (faultOf room s c) h
 
   holding-same : (at : ℕ) (j : Job) → at + 101 ≤ b → holding (take b s) at j ≡ holding s at j
@@ -169,12 +169,12 @@ module _ (room : Tally) (s : List ℕ) (b : ℕ) (most : readAtMost room ≤ b) 
   unfolding readFrom
   same zero c j i = refl
   same (suc n) c j i =
-      ap (onward (readFrom n room (take b s)) (take b s) c j) (step-same c (near c i))
-      ∙ go (stepOf room s c) refl (λ (d : Cursor). same n d (holding s (c .at) j))
+      ap (readOn (readFrom n room (take b s)) (take b s) c j) (step-same c (near c i))
+      ∙ go (recordStep room s c) refl (λ (d : Cursor). same n d (holding s (c .at) j))
     where
-      go : (x : Step) → stepOf room s c ≡ x
+      go : (x : Step) → recordStep room s c ≡ x
           → ((d : Cursor) → Within room d → readFrom n room (take b s) d (holding s (c .at) j) ≡ readFrom n room s d (holding s (c .at) j))
-          → onward (readFrom n room (take b s)) (take b s) c j x ≡ onward (readFrom n room s) s c j x
+          → readOn (readFrom n room (take b s)) (take b s) c j x ≡ readOn (readFrom n room s) s c j x
       go step.Done e rec = refl
       go (step.Stop r) e rec = refl
       go (step.On d) e rec = ap (readFrom n room (take b s) d) (holding-same (c .at) j (near c i)) ∙ rec d (within-on room s c d i e)
@@ -183,8 +183,8 @@ module _ (room : Tally) (s : List ℕ) (b : ℕ) (most : readAtMost room ≤ b) 
   unfolding reading
   cut-same =
       let z = seen in
-      enough room (take b s) (suc (length (take b s))) (suc (length s)) start nothing (cursor-start (take b s)) (omega arith) (omega arith)
-      ∙ same (suc (length s)) start nothing (within-start room)
+      enough room (take b s) (suc (length (take b s))) (suc (length s)) start emptyJob (cursor-start (take b s)) (omega arith) (omega arith)
+      ∙ same (suc (length s)) start emptyJob (within-start room)
 
 pub prefix : (room : Tally) (s : List ℕ) (b : ℕ) → readAtMost room ≤ b → reading room (take b s) ≡ reading room s
 prefix room s b h =

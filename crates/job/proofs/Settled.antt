@@ -10,7 +10,7 @@ use Rattle.job.specs.declared.SettingBits.{SettingBits}
 use Rattle.job.specs.declared.Scanned.the-variants as scanned
 use Rattle.job.specs.declared.Read.the-variants as read
 use Rattle.job.specs.Bytes.{valuesAt}
-use Rattle.job.specs.Format.{Reading, taken, refused, reading, Space, roomIn, settingsFrom, given, readInto, scannedAs, IsTaken, filledBy}
+use Rattle.job.specs.Format.{Reading, taken, refused, reading, Space, roomIn, settingsFrom, readGives, readInto, scannedAs, IsTaken, filledBy}
 use Rattle.job.proofs.Trips.{read-settings}
 
 whole : (x : Reading) (t : Tally) → scanned.Whole t ≡ scannedAs x → IsTaken x
@@ -31,18 +31,18 @@ module _ (room : Tally) (s : List ℕ) (t : Tally) (e : scanned.Whole t ≡ scan
 module _ (room : Tally) (s : List ℕ) (l : Space) (i : room ≡ roomIn l) where
   pub reads-refused : (r : Refusal) → scanned.Refused r ≡ scannedAs (reading room s) → (read.Refused r, l) ≡ readInto s l
   unfolding readInto
-  reads-refused r e = go (reading room s) e ∙ ap (λ (x : Tally). given l (reading x s)) i
+  reads-refused r e = go (reading room s) e ∙ ap (λ (x : Tally). readGives l (reading x s)) i
     where
-      go : (x : Reading) → scanned.Refused r ≡ scannedAs x → (read.Refused r, l) ≡ given l x
+      go : (x : Reading) → scanned.Refused r ≡ scannedAs x → (read.Refused r, l) ≡ readGives l x
       go (taken u j) q = absurd (let z : _≡_ {A = ℕ} 0 1 = cc in omega arith)
       go (refused r') q = let z : r ≡ r' = cc in ap (λ (x : Refusal). (read.Refused x, l)) z
 
   pub reads-whole : (t : Tally) (b : SettingBits) (m : Space) → scanned.Whole t ≡ scannedAs (reading room s) → b ≡ settingsFrom (valuesAt 4 4 s 4)
       → m ≡ filledBy (reading room s) l → (read.Job b t, m) ≡ readInto s l
   unfolding readInto
-  reads-whole t b m e f g = go (reading room s) refl e g ∙ ap (λ (x : Tally). given l (reading x s)) i
+  reads-whole t b m e f g = go (reading room s) refl e g ∙ ap (λ (x : Tally). readGives l (reading x s)) i
     where
-      go : (x : Reading) → reading room s ≡ x → scanned.Whole t ≡ scannedAs x → m ≡ filledBy x l → (read.Job b t, m) ≡ given l x
+      go : (x : Reading) → reading room s ≡ x → scanned.Whole t ≡ scannedAs x → m ≡ filledBy x l → (read.Job b t, m) ≡ readGives l x
       go (refused r) p q h = absurd (let z : _≡_ {A = ℕ} 0 1 = cc in omega arith)
       go (taken u j) p q h =
           let z : t ≡ u = cc in

@@ -12,12 +12,12 @@ use Rattle.rows.specs.Tests.{unfit}
 use Rattle.job.specs.declared.Read.the-variants as read
 use Rattle.job.specs.declared.Written.the-variants as written
 use Rattle.job.specs.Bytes.{valueAt, bytesOf, bytesFrom, pasted}
-use Rattle.job.specs.Format.{Job, recordOf, encoded, isRecord, mayFollow, isFull, faultOf, stepOf, holding}
+use Rattle.job.specs.Format.{Job, recordOf, encoded, isRecord, mayFollow, isFull, faultOf, recordStep, holding}
 use Rattle.job.specs.Format.{Reading, taken, refused, readFrom, reading, space, roomIn, filled, readInto, writtenInto}
 
 -- reading, with all that it computes by
 unfoldable computed : Tally → List ℕ → Reading
-unfolding reading readFrom stepOf faultOf valueAt table holding isRecord mayFollow isFull if-then bytesOf encoded strung
+unfolding reading readFrom recordStep faultOf valueAt table holding isRecord mayFollow isFull if-then bytesOf encoded strung
 computed room s = reading room s
 
 -- so many poses, edges and fixed entries

@@ -20,8 +20,8 @@ use Rattle.job.specs.declared.Tally.{Tally}
 use Rattle.job.specs.declared.Cursor.{Cursor}
 use Rattle.job.specs.declared.Step.{Step}
 use Rattle.job.specs.declared.Step.the-variants as step
-use Rattle.job.specs.Format.{Job, kindAt, lengthAt, isRecord, mayFollow, isFull, recordFaults, faultOf, endFaults, one, behind, closed, stepFrom, stepOf}
-use Rattle.job.specs.Format.{holding, Reading, taken, refused, onward, readFrom, reading, start, nothing, CursorIn}
+use Rattle.job.specs.Format.{Job, kindAt, lengthAt, isRecord, mayFollow, isFull, recordFaults, faultOf, endFaults, one, behind, closed, stepFrom, recordStep}
+use Rattle.job.specs.Format.{holding, Reading, taken, refused, readOn, readFrom, reading, start, emptyJob, CursorIn}
 
 -- ---- kinds and lengths
 
@@ -126,8 +126,8 @@ closed-done (verdict.Refused r) e = absurd (let z : _≡_ {A = ℕ} 0 1 = cc in 
 on-is : (x y : Cursor) → step.On x ≡ step.On y → y ≡ x
 on-is x y e = cc
 
-pub went-on : (room : Tally) (s : List ℕ) (c d : Cursor) → stepOf room s c ≡ step.On d → Went-on room s c d
-unfolding stepOf if-then
+pub went-on : (room : Tally) (s : List ℕ) (c d : Cursor) → recordStep room s c ≡ step.On d → Went-on room s c d
+unfolding recordStep if-then
 went-on room s c d e = go (faultOf room s c) (eqb (kindAt s (c .at)) 5) refl refl e
   where
     go : (v : Verdict) (b : Bool) → faultOf room s c ≡ v → eqb (kindAt s (c .at)) 5 ≡ b → stepFrom s c v ≡ step.On d → Went-on room s c d
@@ -142,8 +142,8 @@ went-on room s c d e = go (faultOf room s c) (eqb (kindAt s (c .at)) 5) refl ref
           is = on-is (behind s c) d (subst (λ (y : Bool). if-then y (closed (says (endFaults s) (c .at + 4))) (step.On (behind s c)) ≡ step.On d) q x);
         }
 
-pub ended : (room : Tally) (s : List ℕ) (c : Cursor) → stepOf room s c ≡ step.Done → Ended room s c
-unfolding stepOf if-then
+pub ended : (room : Tally) (s : List ℕ) (c : Cursor) → recordStep room s c ≡ step.Done → Ended room s c
+unfolding recordStep if-then
 ended room s c e = go (faultOf room s c) (eqb (kindAt s (c .at)) 5) refl refl e
   where
     go : (v : Verdict) (b : Bool) → faultOf room s c ≡ v → eqb (kindAt s (c .at)) 5 ≡ b → stepFrom s c v ≡ step.Done → Ended room s c
@@ -167,7 +167,7 @@ unfolding if-then
 one-most true = omega arith
 one-most false = omega arith
 
-pub cursor-on : (room : Tally) (s : List ℕ) (c d : Cursor) → CursorIn s c → stepOf room s c ≡ step.On d → CursorIn s d × (c .at < d .at)
+pub cursor-on : (room : Tally) (s : List ℕ) (c d : Cursor) → CursorIn s c → recordStep room s c ≡ step.On d → CursorIn s d × (c .at < d .at)
 cursor-on room s c d i e =
     let w = went-on room s c d e in
     let h = fault-free room s c (w .fine) .whole in
@@ -187,12 +187,12 @@ module _ (room : Tally) (s : List ℕ) where
   enough zero m c j i p q = absurd (omega arith)
   enough (suc n) zero c j i p q = absurd (omega arith)
   enough (suc n) (suc m) c j i p q =
-      go (stepOf room s c) refl (λ (d : Cursor). enough n m d (holding s (c .at) j))
+      go (recordStep room s c) refl (λ (d : Cursor). enough n m d (holding s (c .at) j))
     where
-      go : (x : Step) → stepOf room s c ≡ x
+      go : (x : Step) → recordStep room s c ≡ x
           → ((d : Cursor) → CursorIn s d → length s - d .at < n → length s - d .at < m
           → readFrom n room s d (holding s (c .at) j) ≡ readFrom m room s d (holding s (c .at) j))
-          → onward (readFrom n room s) s c j x ≡ onward (readFrom m room s) s c j x
+          → readOn (readFrom n room s) s c j x ≡ readOn (readFrom m room s) s c j x
       go step.Done e rec = refl
       go (step.Stop r) e rec = refl
       go (step.On d) e rec =
@@ -204,22 +204,22 @@ module _ (room : Tally) (s : List ℕ) where
   abbrev pub from : Cursor → Job → Reading
   from c j = readFrom (suc (length s - c .at)) room s c j
 
-  pub from-start : reading room s ≡ from start nothing
+  pub from-start : reading room s ≡ from start emptyJob
   unfolding reading
-  from-start = enough (suc (length s)) (suc (length s - 0)) start nothing (cursor-start s) (omega arith) (omega arith)
+  from-start = enough (suc (length s)) (suc (length s - 0)) start emptyJob (cursor-start s) (omega arith) (omega arith)
 
-  pub from-on : (c d : Cursor) (j : Job) → CursorIn s c → stepOf room s c ≡ step.On d → from c j ≡ from d (holding s (c .at) j)
+  pub from-on : (c d : Cursor) (j : Job) → CursorIn s c → recordStep room s c ≡ step.On d → from c j ≡ from d (holding s (c .at) j)
   unfolding readFrom
   from-on c d j i e =
       let w = cursor-on room s c d i e in
       let a = w .1 in let b = w .0 .0 in
-      ap (onward (readFrom (length s - c .at) room s) s c j) e
+      ap (readOn (readFrom (length s - c .at) room s) s c j) e
       ∙ enough (length s - c .at) (suc (length s - d .at)) d (holding s (c .at) j) (w .0) (omega arith) (omega arith)
 
-  pub from-done : (c : Cursor) (j : Job) → stepOf room s c ≡ step.Done → from c j ≡ taken (c .had) j
+  pub from-done : (c : Cursor) (j : Job) → recordStep room s c ≡ step.Done → from c j ≡ taken (c .had) j
   unfolding readFrom
-  from-done c j e = ap (onward (readFrom (length s - c .at) room s) s c j) e
+  from-done c j e = ap (readOn (readFrom (length s - c .at) room s) s c j) e
 
-  pub from-stop : (c : Cursor) (j : Job) (r : Refusal) → stepOf room s c ≡ step.Stop r → from c j ≡ refused r
+  pub from-stop : (c : Cursor) (j : Job) (r : Refusal) → recordStep room s c ≡ step.Stop r → from c j ≡ refused r
   unfolding readFrom
-  from-stop c j r e = ap (onward (readFrom (length s - c .at) room s) s c j) e
+  from-stop c j r e = ap (readOn (readFrom (length s - c .at) room s) s c j) e

@@ -36,8 +36,8 @@ pub record Job : Type 0 where
   pub fixed : List ℕ
 
 -- nothing was read yet: no setting has a value
-abbrev pub nothing : Job
-nothing = record { settings = []; poses = []; ends = []; edges = []; fixed = [] }
+abbrev pub emptyJob : Job
+emptyJob = record { settings = []; poses = []; ends = []; edges = []; fixed = [] }
 
 abbrev pub tallyOf : Job → Tally
 tallyOf j = record { poses = length (j .poses) / 12; edges = length (j .ends) / 2; fixed = length (j .fixed) }
@@ -152,8 +152,8 @@ abbrev pub stepFrom : List ℕ → Cursor → Verdict → Step
 stepFrom s c (verdict.Refused r) = step.Stop r
 stepFrom s c verdict.Fine = if-then (eqb (kindAt s (c .at)) 5) (closed (says (endFaults s) (c .at + 4))) (step.On (behind s c))
 
-unfoldable pub stepOf : Tally → List ℕ → Cursor → Step
-stepOf room s c = stepFrom s c (faultOf room s c)
+unfoldable pub recordStep : Tally → List ℕ → Cursor → Step
+recordStep room s c = stepFrom s c (faultOf room s c)
 
 -- what the record at a place holds
 abbrev pub numbersIf : Bool → List ℕ → List ℕ
@@ -185,19 +185,19 @@ pub data Reading : Type 0 where
   taken : Tally → Job → Reading
   refused : Refusal → Reading
 
-abbrev pub onward : (Cursor → Job → Reading) → List ℕ → Cursor → Job → Step → Reading
-onward next s c j (step.On d) = next d (holding s (c .at) j)
-onward next s c j step.Done = taken (c .had) j
-onward next s c j (step.Stop r) = refused r
+abbrev pub readOn : (Cursor → Job → Reading) → List ℕ → Cursor → Job → Step → Reading
+readOn next s c j (step.On d) = next d (holding s (c .at) j)
+readOn next s c j step.Done = taken (c .had) j
+readOn next s c j (step.Stop r) = refused r
 
 -- from a cursor on, with what was read so far, over at most n records
 unfoldable pub readFrom : ℕ → Tally → List ℕ → Cursor → Job → Reading
 readFrom zero room s c j = refused (refusal 31 (c .at))
-readFrom (suc n) room s c j = onward (readFrom n room s) s c j (stepOf room s c)
+readFrom (suc n) room s c j = readOn (readFrom n room s) s c j (recordStep room s c)
 
 -- every record takes four bytes or more, so there are fewer records than bytes
 unfoldable pub reading : Tally → List ℕ → Reading
-reading room s = readFrom (suc (length s)) room s start nothing
+reading room s = readFrom (suc (length s)) room s start emptyJob
 
 -- what stands past so many bytes changes no answer: as much as a job can take, with one more record of the longest kind in the place of its end, and a byte
 abbrev pub readAtMost : Tally → ℕ
@@ -228,12 +228,12 @@ settingsFrom ns =
     record { limit = getD ns 0 0; «cost_tolerance» = getD ns 1 0; «gradient_tolerance» = getD ns 2 0; damping = getD ns 3 0 }
 
 -- a refused job changes no lent number
-abbrev pub given : Space → Reading → Read × Space
-given l (taken t j) = (read.Job (settingsFrom (j .settings)) t, filled j l)
-given l (refused r) = (read.Refused r, l)
+abbrev pub readGives : Space → Reading → Read × Space
+readGives l (taken t j) = (read.Job (settingsFrom (j .settings)) t, filled j l)
+readGives l (refused r) = (read.Refused r, l)
 
 unfoldable pub readInto : List ℕ → Space → Read × Space
-readInto s l = given l (reading (roomIn l) s)
+readInto s l = readGives l (reading (roomIn l) s)
 
 -- ---- the writer: its answer, and the output
 

@@ -8,7 +8,7 @@ ghost use Rattle.numbers.specs.Refusals.{refusal, says};
 ghost use Rattle.numbers.specs.Walks.{strung};
 ghost use Rattle.job.specs.Bytes.{valueAt, valuesAt, bytesOf, bytesFrom, pasted};
 ghost use Rattle.job.specs.Format.{settingsRecord, poseRecord, edgeRecord, fixedRecord, encoded, sizeOf, scannedAs, IsTaken, taking, filledBy};
-ghost use Rattle.job.specs.Format.{isRecord, mayFollow, isFull, faultOf, endFaults, closed, one, counted, stepOf, CursorIn};
+ghost use Rattle.job.specs.Format.{isRecord, mayFollow, isFull, faultOf, endFaults, closed, one, counted, recordStep, CursorIn};
 ghost use Rattle.job.specs.Format.{start as Format·start, reading, settingsFrom, settingNumbers, jobOf, tallyOf, space, roomIn, readInto, writtenInto};
 use numbers::Refusal;
 use numbers::Verdict;
@@ -224,7 +224,7 @@ fn count(kind: u64, had: Tally) -> Tally
 // The record at c: a cut header, then a bad length, kind or order, a cut body, one too many; else what stands behind it.
 fn step_at(room: Tally, s: &[u8], c: Cursor) -> Step
     requires { ⌜ CursorIn (now s) c ⌝ }
-    ensures { λ r. ⌜ r ≡ stepOf room (now (s .entry)) c ⌝ }
+    ensures { λ r. ⌜ r ≡ recordStep room (now (s .entry)) c ⌝ }
 {
     let at = c.at;
     let had = c.had;

@@ -13,7 +13,7 @@ use Rattle.sparse_pgo.specs.declared.Joined.{Joined}
 use Rattle.printable.specs.declared.Printable.{Printable}
 use Rattle.job.specs.Bytes.{pasted}
 use Rattle.job.specs.Format.{Job, Space, space, roomIn, filled, Reading, taken, refused, reading}
-use Rattle.job.specs.Format.{settingsFrom, settingNumbers, given, readInto, jobOf, writtenInto}
+use Rattle.job.specs.Format.{settingsFrom, settingNumbers, readGives, readInto, jobOf, writtenInto}
 use Rattle.job.specs.declared.Tally.{Tally}
 use Rattle.job.specs.declared.SettingBits.{SettingBits}
 use Rattle.job.specs.declared.Read.{Read}
@@ -53,7 +53,7 @@ module _ (t : SettingBits) (had : Tally) (l : Space) (out : List ℕ) where
 
 -- ---- what the reader gave
 
-given-refused : (x : Reading) (l l' : Space) (r : Refusal) → (read.Refused r, l') ≡ given l x → x ≡ refused r
+given-refused : (x : Reading) (l l' : Space) (r : Refusal) → (read.Refused r, l') ≡ readGives l x → x ≡ refused r
 given-refused (taken h j) l l' r e = let q = ap (λ (y : Read × Space). y .0) e in let z : _≡_ {A = ℕ} 0 1 = cc in absurd (omega arith)
 given-refused (refused k) l l' r e = let q = ap (λ (y : Read × Space). y .0) e in let k-is : k ≡ r = cc in ap refused k-is
 
@@ -95,9 +95,9 @@ module _ (room : Tally) (l : Space) (b : Blank room l) where
       tally-is room _ _ _ (omega arith) (omega arith) f
 
   module _ (s : List ℕ) (r : Read) (l' : Space) (e : (r, l') ≡ readInto s (front room l)) where
-    read-here : (r, l') ≡ given (front room l) (reading room s)
+    read-here : (r, l') ≡ readGives (front room l) (reading room s)
     unfolding readInto
-    read-here = e ∙ ap (λ (y : Tally). given (front room l) (reading y s)) room-in-front
+    read-here = e ∙ ap (λ (y : Tally). readGives (front room l) (reading y s)) room-in-front
 
     pub within-refused : (x : Refusal) (out : List ℕ) → r ≡ read.Refused x → (report.Refused x, 0, out) ≡ joinedInto room s out
     unfolding joinedInto

@@ -30,11 +30,11 @@ unfoldable pub startOf : List Float → ℕ → ℕ → ℕ
 startOf w n i = if-then (ltb i n) (leading (λ j. plusZero (hessianOf w n i j)) i) 0
 
 -- n where len numbers are enough for n unknowns, else 0
-unfoldable pub roomFor : ℕ → ℕ → ℕ
-roomFor len n = if-then (leb (need n) len) n 0
+unfoldable pub orderFor : ℕ → ℕ → ℕ
+orderFor len n = if-then (leb (need n) len) n 0
 
 abbrev pub startsOf : List Float → ℕ → List ℕ
-startsOf w n = table (startOf w (roomFor (length w) n)) 384
+startsOf w n = table (startOf w (orderFor (length w) n)) 384
 
 -- the start of row i in a table; rows past the table start at 0
 unfoldable pub firstOf : List ℕ → ℕ → ℕ

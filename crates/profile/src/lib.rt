@@ -5,7 +5,7 @@ ghost use Prim.Native.Nat.{ℕ, _*_, _≤_};
 ghost use lib.Dec.{leb};
 ghost use lib.ListN.{length};
 ghost use Rattle.profile.specs.Layout.{need};
-ghost use Rattle.profile.specs.Starts.{plusZero, minusZero, roomFor, startOf, startsOf, firstOf, startAt};
+ghost use Rattle.profile.specs.Starts.{plusZero, minusZero, orderFor, startOf, startsOf, firstOf, startAt};
 
 // Whether n (n + 3) numbers have room.
 pub fn has_room(len: usize, n: usize) -> bool
@@ -22,8 +22,8 @@ pub fn has_room(len: usize, n: usize) -> bool
 }
 
 // n where there is room for n unknowns, else 0.
-fn room_for(len: usize, n: usize) -> usize
-    ensures { λ r. ⌜ r ≡ roomFor len n ⌝ }
+fn order_for(len: usize, n: usize) -> usize
+    ensures { λ r. ⌜ r ≡ orderFor len n ⌝ }
 {
     if has_room(len, n) { n } else { 0usize }
 }
@@ -70,7 +70,7 @@ fn first_in(w: &[f32], n: usize, i: usize) -> usize
 pub fn starts(w: &[f32], n: usize) -> [usize; 384]
     ensures { λ r. ⌜ r ≡ startsOf (now (w .entry)) n ⌝ }
 {
-    let m = room_for(w.len(), n);
+    let m = order_for(w.len(), n);
     let mut f = [0usize; 384];
     let mut i = 0usize;
     while i < 384usize {

@@ -1,4 +1,4 @@
-// Retraction on each manifold, the weighted residual of an edge, and the cost of the active edges (sparse_pgo.rs).
+// The weighted residual of an edge (weighted_relative_residual of sparse_pgo.rs), and by its parts: with one end at other transforms.
 ghost use mathlib.Core.Path.{_≡_};
 ghost use Rattle.residual.specs.Residuals.{weightedVec, weighted, sixIfFinite, residualOf, sixOf};
 ghost use Rattle.residual.specs.EdgeParts.{undoneOf, errorQuat, carried, residualIn, tied, linkedOf, sixIn};
@@ -68,8 +68,6 @@ pub enum Linked {
     By { link: Link, six: Twist },
     Bad(Failure),
 }
-
-// ---- the residual
 
 // Narrowed, then weighted in f32.
 fn weigh_vec(w: f32, v: Vec3) -> Vec3F32
@@ -292,8 +290,6 @@ pub fn weighted_relative_residual(a: Pose, b: Pose, edge: Edge) -> Residual
     let to = pose_conversion::checked_pose_to_se3(b);
     six_in(linked_of(from, to, edge))
 }
-
-// ---- transforms stowed in numbers
 
 // The six numbers in order.
 pub fn six_of(d: Twist) -> [f32; 6]

@@ -16,8 +16,6 @@ use rotations::Pose;
 use rotations::Quat;
 use rotations::Vec3;
 
-// ---- retraction
-
 // A gravity manifold with gravity of length 1, which is what `retract` takes (normalized_gravity).
 pub fn unit_manifold(m: Manifold) -> Manifold
     ensures { λ r. ⌜ r ≡ unitOf m ⌝ }

@@ -1,4 +1,5 @@
-// What each row of the table of refusals asks, 1 to 19 of document 01, but those that go along the poses or edges; rows 15 to 19, the settings, whole.
+// What the rows of the table of refusals ask (document 01): of the input as a whole, of one edge, of one fixed entry, of the free poses and the work; and
+// rows 15 to 19, the settings, whole. The table itself, with rows 6 and 26, stands in the crate checks.
 ghost use mathlib.Core.Path.{_≡_};
 ghost use mathlib.Core.Bool.{not, _||_};
 ghost use lib.Dec.{eqb, ltb, leb};
@@ -74,7 +75,7 @@ pub fn row_5(v: Verdict, edges: usize) -> Verdict
     numbers::asked(v, edges == 0, 5, 0)
 }
 
-// ---- rows 6 to 11: pose by pose, edge by edge, entry by entry
+// ---- rows 7 to 11: of one edge, of one entry
 
 pub fn edge_7(v: Verdict, n: usize, a: usize, b: usize, k: usize) -> Verdict
     ensures { λ r. ⌜ r ≡ orElse v (ask (leb n a || leb n b) 7 k) ⌝ }

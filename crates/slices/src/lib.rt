@@ -1,4 +1,4 @@
-// Copies and clears over lent slices, of any lengths: the loops that every crate above would else write again.
+// Copies and clears over lent slices, of any lengths: the loops that crates above would else write again.
 ghost use mathlib.Core.Path.{_≡_};
 ghost use lib.ListN.{length, replicate};
 ghost use Rattle.numbers.specs.Notation.{num};

@@ -12,7 +12,7 @@ use Rattle.numbers.specs.Notation.{num, if-then}
 use Rattle.numbers.proofs.Choices.{taken}
 use Rattle.numbers.proofs.Tables.{getD-table}
 use Rattle.profile.specs.Layout.{need, hessianOf}
-use Rattle.profile.specs.Starts.{plusZero, leading, startOf, roomFor, startsOf, firstOf}
+use Rattle.profile.specs.Starts.{plusZero, leading, startOf, orderFor, startsOf, firstOf}
 use Rattle.profile.proofs.Leading.{leading-low, leading-all}
 use Rattle.profile.proofs.Zeros.{Fits, plus-zero-is}
 
@@ -40,8 +40,8 @@ start-of w n i fit = go (ltb i n) (λ j. plusZero (hessianOf w n i j)) (λ b e. 
     go false t h = start-zero w n i
 
 -- with room the table is of n rows
-room : (w : List Float) (n : ℕ) → need n ≤ length w → roomFor (length w) n ≡ n
-unfolding roomFor
+room : (w : List Float) (n : ℕ) → need n ≤ length w → orderFor (length w) n ≡ n
+unfolding orderFor
 room w n long = sym (taken _ (le-leb (need n) (length w) long) refl)
 
 pub starts-are : (w : List Float) (n : ℕ) (F : List ℕ) → need n ≤ length w → ((q : ℕ) → Fits (getD w q nan)) → F ≡ startsOf w n → Starts w n F
@@ -49,5 +49,5 @@ unfolding firstOf
 starts-are w n F long fit e a = go (ltb a 384) refl
   where
     go : (c : Bool) → ltb a 384 ≡ c → Start w n a (cond c (getD F a 0) 0)
-    go true q = rw (e, getD-table (startOf w (roomFor (length w) n)) 384 a 0 (ltb-true a 384 q), room w n long) (start-of w n a fit)
+    go true q = rw (e, getD-table (startOf w (orderFor (length w) n)) 384 a 0 (ltb-true a 384 q), room w n long) (start-of w n a fit)
     go false q = start-zero w n a

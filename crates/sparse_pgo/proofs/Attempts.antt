@@ -31,7 +31,7 @@ use Rattle.decisions.specs.declared.Raw.the-variants as raw
 use Rattle.decisions.specs.declared.Trial.the-variants as trial
 use Rattle.decisions.specs.declared.Outcome.{Outcome}
 use Rattle.decisions.specs.declared.Outcome.the-variants as outcome
-use Rattle.trials.specs.Trials.{normOf, stepTolerance, moves, movedNumbers, triedAs, trialIn, tried, tryLeaves}
+use Rattle.trials.specs.Trials.{normOf, stepTolerance, moves, movedNumbers, triedAs, trialIn, tryAnswers, tryLeaves}
 use Rattle.trials.proofs.Steps.{norm-same, moves-same, moved-same}
 use Rattle.trials.proofs.Halves.{tried-halves, trial-front, accepted-front}
 use Rattle.sparse_pgo.specs.declared.Job.{Job}
@@ -155,7 +155,7 @@ module _ {job : Job} {l : Links Edge} (st : State) {w32 w32' before : List Float
     unfolding partsOn numerics if-then
     raw-is = rw (h .is-system, can)
 
-    tried-is : tried (job .manifold) l (st .cost) lent-step before ≡ heard (st .cost) (numerics (partsIn job l) .attempt (heldIn job before) damping)
+    tried-is : tryAnswers (job .manifold) l (st .cost) lent-step before ≡ heard (st .cost) (numerics (partsIn job l) .attempt (heldIn job before) damping)
     tried-is =
         tried-halves (job .manifold) (l .slot) δ' (job .poses) before (lent .double) l (st .cost) lent-step refl refl
         ∙ ap (heard (st .cost)) (rw (raw-is, norm-is, moves-are, moved-are))
@@ -174,7 +174,7 @@ module _ {job : Job} {l : Links Edge} (st : State) {w32 w32' before : List Float
     held-by (outcome.Tried (trial.Rejected w)) = trial-front (job .manifold) (l .slot) δ' (job .poses) before (lent .double)
 
     pub attempt-tried : {o : Outcome} {after : List Float}
-        → (o ≡ tried (job .manifold) l (st .cost) (partFrom (job .n * job .n + job .n + job .n) w32') before)
+        → (o ≡ tryAnswers (job .manifold) l (st .cost) (partFrom (job .n * job .n + job .n + job .n) w32') before)
         × (after ≡ tryLeaves o before (trialIn (job .manifold) (l .slot) (λ i. getD (partFrom (job .n * job .n + job .n + job .n) w32') i nan) before))
         → Attempted job l st before o w32' after
     attempt-tried {o} {after} v =

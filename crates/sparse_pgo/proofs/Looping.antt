@@ -22,7 +22,7 @@ use Rattle.numbers.proofs.Order.{unsigned, le-of-not-lt}
 use Rattle.decisions.proofs.Going.{Going, turnsLeft, going-begin, going-on, going-less, going-done}
 use Rattle.sparse_pgo.specs.declared.Job.{Job}
 use Rattle.sparse_pgo.specs.Parts.{numerics}
-use Rattle.sparse_pgo.specs.forms.Turns.{partsIn, heldIn, Lent, Ready, Turned, Startable}
+use Rattle.sparse_pgo.specs.forms.Turns.{partsIn, heldIn, Lent, AtTop, Turned, Startable}
 
 -- ---- a first damping that passes row 19 is at most 1e10
 
@@ -52,7 +52,7 @@ pub record Iterated (job : Job) (l : Links Edge) (cost : Float) (before : List F
 
 pub record Turning (job : Job) (l : Links Edge) (cost : Float) (first w32 w64 : List Float) (s : State) : Type 0 where
   pub lent : Lent job w32 w64
-  pub holds : Ready job l s (heldIn job w64) w32
+  pub holds : AtTop job l s (heldIn job w64) w32
   pub going : Going (numerics (partsIn job l)) (job .settings .limit) (job .settings .«cost_tolerance») cost (job .settings .damping) (heldIn job first) s (heldIn job w64)
 
 pub turning-begin : {job : Job} {l : Links Edge} {cost : Float} {w32 w64 : List Float} {s : State} → s ≡ begun cost (job .settings .damping) → Lent job w32 w64 → Startable job

@@ -32,7 +32,7 @@ use Rattle.decisions.specs.declared.Next.the-variants as next
 use Rattle.decisions.proofs.Ways.{turned-stop, turned-go, passed-again}
 use Rattle.sparse_pgo.specs.declared.Job.{Job}
 use Rattle.sparse_pgo.specs.Parts.{numerics}
-use Rattle.sparse_pgo.specs.forms.Turns.{partsIn, heldIn, Holds, Ready, Passed, accepts, Attempted, Turned}
+use Rattle.sparse_pgo.specs.forms.Turns.{partsIn, heldIn, Holds, AtTop, Passed, accepts, Attempted, Turned}
 use Rattle.sparse_pgo.proofs.Assembling.{Made}
 
 -- ---- the state after a solve: one more accepted exactly where the trial was, and then the system is to be assembled
@@ -98,7 +98,7 @@ module _ (job : Job) (l : Links Edge) (s : State) (x : List Float) where
   due = numerics (partsIn job l) .assemble x
 
   -- the system stands in the work already
-  pub top-again : {w32 : List Float} → length w32 ≡ need (job .n) → s .fresh ≡ false → Ready job l s x w32 → Passed job l s x gate.Go w32
+  pub top-again : {w32 : List Float} → length w32 ≡ need (job .n) → s .fresh ≡ false → AtTop job l s x w32 → Passed job l s x gate.Go w32
   top-again long f r = record { long = long; answer = sym (passed-again (job .settings .limit) (job .settings .«cost_tolerance») s due f); holds = λ _. r f }
 
   -- at the limit nothing is assembled

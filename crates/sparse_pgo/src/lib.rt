@@ -7,7 +7,7 @@ ghost use Rattle.decisions.specs.Run.{iterations};
 ghost use Rattle.profile.specs.Layout.{need};
 ghost use Rattle.sparse_pgo.specs.Parts.{hasConverged, answerAfter};
 ghost use Rattle.sparse_pgo.specs.Optimize.{optimizedOn};
-ghost use Rattle.sparse_pgo.specs.forms.Turns.{linksIn, heldIn, Sized, Lent, Holds, Ready, assemblyIn};
+ghost use Rattle.sparse_pgo.specs.forms.Turns.{linksIn, heldIn, Sized, Lent, Holds, AtTop, assemblyIn};
 ghost use Rattle.sparse_pgo.specs.forms.Turns.{Passed, Attempted, Turned, Startable, Started, Begun};
 use assembly::Assembled;
 use checks::Checked;
@@ -91,7 +91,7 @@ fn pass_top(
     w32: &mut [f32],
 ) -> Gate
     requires { ⌜ Sized job × (length (now w32) ≡ need (job .n)) ⌝ }
-    requires { ⌜ Ready job (linksIn job (now ends) (now edges) (now blocks)) s (now poses) (now w32) ⌝ }
+    requires { ⌜ AtTop job (linksIn job (now ends) (now edges) (now blocks)) s (now poses) (now w32) ⌝ }
     ensures { λ r. ⌜ Passed job (linksIn job (now (ends .entry)) (now (edges .entry)) (now (blocks .entry))) s (now (poses .entry)) r (now (w32 .exit)) ⌝ }
 {
     let fresh = s.fresh;
@@ -149,7 +149,7 @@ fn one_turn(
     w64: &mut [f64],
 ) -> Next
     requires { ⌜ Lent job (now w32) (now w64) × (s .accepted < 4294967295) ⌝ }
-    requires { ⌜ Ready job (linksIn job (now ends) (now edges) (now blocks)) s (heldIn job (now w64)) (now w32) ⌝ }
+    requires { ⌜ AtTop job (linksIn job (now ends) (now edges) (now blocks)) s (heldIn job (now w64)) (now w32) ⌝ }
     ensures { λ r. ⌜ Turned job (linksIn job (now (ends .entry)) (now (edges .entry)) (now (blocks .entry))) s (now (w64 .entry)) r (now (w32 .exit)) (now (w64 .exit)) ⌝ }
 {
     let half = job.poses * 12;

@@ -16,7 +16,7 @@ use Rattle.graph.specs.declared.Slot.{Slot}
 use Rattle.costs.specs.Costs.{costEnds}
 use Rattle.decisions.specs.Run.{heard}
 use Rattle.decisions.specs.declared.Raw.the-variants as raw
-use Rattle.trials.specs.Trials.{normOf, stepTolerance, moves, movedNumbers, triedAs, half, trialIn, accepted, tried}
+use Rattle.trials.specs.Trials.{normOf, stepTolerance, moves, movedNumbers, triedAs, half, trialIn, takenOver, tryAnswers}
 
 module _ (m : Manifold) (slot : ℕ → Slot) (δ : ℕ → Float) (poses : ℕ) (w : List Float) (long : length w ≡ poses * 24) where
   pub count-is : length w / 24 ≡ poses
@@ -57,20 +57,20 @@ module _ (m : Manifold) (slot : ℕ → Slot) (δ : ℕ → Float) (poses : ℕ)
       ap (λ (k : ℕ). drop k (trialIn m slot δ w)) half-is ∙ ap (drop (poses * 12)) trial-is ∙ drop-at held moved (poses * 12) held-long
 
   -- the trial's taken over
-  pub accepted-front : take (poses * 12) (accepted (trialIn m slot δ w)) ≡ movedNumbers m slot (take (poses * 12) w) δ
+  pub accepted-front : take (poses * 12) (takenOver (trialIn m slot δ w)) ≡ movedNumbers m slot (take (poses * 12) w) δ
   accepted-front =
       let e : half (trialIn m slot δ w) ≡ half w = ap (λ (k : ℕ). k / 24 * 12) trial-long in
       let b : drop (half (trialIn m slot δ w)) (trialIn m slot δ w) ≡ moved = ap (λ (k : ℕ). drop k (trialIn m slot δ w)) e ∙ trial-behind in
       let h : half (trialIn m slot δ w) ≡ poses * 12 = e ∙ half-is in
-      let f : accepted (trialIn m slot δ w) ≡ moved ++ moved
+      let f : takenOver (trialIn m slot δ w) ≡ moved ++ moved
       = rw (b, h) (ap (λ (z : List Float). z ++ moved) (take-all (poses * 12) moved (omega (arith, moved-long)))) in
       ap (take (poses * 12)) f ∙ take-at moved moved (poses * 12) moved-long
 
   -- what the step comes to
   pub tried-halves : (l : Links Edge) (cost : Float) (step : List Float) → slot ≡ l .slot → δ ≡ (λ i. getD step i nan)
-      → tried m l cost step w
+      → tryAnswers m l cost step w
       ≡ heard cost
       (if-then (lt (normOf δ (length step)) stepTolerance) raw.Small
       (triedAs (moves m (l .slot) poses (take (poses * 12) w) δ) (costEnds l (poseAt (movedNumbers m (l .slot) (take (poses * 12) w) δ)))))
-  unfolding tried
+  unfolding tryAnswers
   tried-halves l cost step e f = rw (← e, ← f, trial-behind, count-is)

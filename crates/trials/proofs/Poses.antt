@@ -25,7 +25,7 @@ use Rattle.graph.specs.declared.Slot.{Slot}
 use Rattle.graph.specs.declared.Slot.the-variants.{Block, Fixed}
 use Rattle.retraction.specs.Retraction.{retractOf}
 use Rattle.trials.specs.declared.TrialPose.{TrialPose}
-use Rattle.trials.specs.Trials.{partOf, movesBy, numberBy, moves, movedNumbers, half, accepted}
+use Rattle.trials.specs.Trials.{partOf, movesBy, numberBy, moves, movedNumbers, half, takenOver}
 use Rattle.trials.specs.forms.Passes.{Moves, Retracted}
 use Rattle.trials.proofs.Behind.{laid-several, laid-is}
 
@@ -109,7 +109,7 @@ module _ (m : Manifold) (slot : ℕ → Slot) (δ : ℕ → Float) (w₀ : List 
 
 -- ---- the trial's poses taken over
 
-pub laid-accepted : {w₀ w : List Float} {i : ℕ} → Laid nan (λ k. getD w₀ (half w₀ + k) nan) 0 w₀ w i → i ≡ half w₀ → w ≡ accepted w₀
+pub laid-accepted : {w₀ w : List Float} {i : ℕ} → Laid nan (λ k. getD w₀ (half w₀ + k) nan) 0 w₀ w i → i ≡ half w₀ → w ≡ takenOver w₀
 laid-accepted {w₀} {w} {i} h e =
     let long : length (take (half w₀) (drop (half w₀) w₀)) ≡ half w₀
     = length-take-le (half w₀) (drop (half w₀) w₀) (rw length-drop (omega arith)) in

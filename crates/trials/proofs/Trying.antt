@@ -22,7 +22,7 @@ use Rattle.decisions.specs.declared.Reason.the-variants as reason
 use Rattle.decisions.specs.declared.Trial.{Trial}
 use Rattle.decisions.specs.declared.Trial.the-variants as trial
 use Rattle.decisions.specs.declared.Outcome.the-variants as outcome
-use Rattle.trials.specs.Trials.{normOf, stepTolerance, moves, half, trialIn, accepted, tried, tryLeaves}
+use Rattle.trials.specs.Trials.{normOf, stepTolerance, moves, half, trialIn, takenOver, tryAnswers, tryLeaves}
 use Rattle.trials.specs.forms.Passes.{Retracted, Evaluated}
 use Rattle.trials.proofs.Priced.{cost-had, cost-bad}
 
@@ -68,18 +68,18 @@ module _ (m : Manifold) (l : Links Edge) (price : Float) (step before : List Flo
   small-is : lt norm tolerance ≡ lt (normOf (λ i. getD step i nan) (length step)) stepTolerance
   small-is = ap₂ lt e (q ∙ sym step-tolerance)
 
-  pub try-small : lt norm tolerance ≡ true → (outcome.Small ≡ tried m l price step before) × (before ≡ tryLeaves outcome.Small before then)
-  unfolding tried heard if-then
+  pub try-small : lt norm tolerance ≡ true → (outcome.Small ≡ tryAnswers m l price step before) × (before ≡ tryLeaves outcome.Small before then)
+  unfolding tryAnswers heard if-then
   try-small t = (rw (sym small-is ∙ t), refl)
 
   module _ (t : lt norm tolerance ≡ false) {r : Trial} {after : List Float} (v : Evaluated m l price (λ i. getD step i nan) before r after) where
-    answered : outcome.Tried r ≡ tried m l price step before
-    unfolding tried if-then
+    answered : outcome.Tried r ≡ tryAnswers m l price step before
+    unfolding tryAnswers if-then
     answered = rw (sym small-is ∙ t) (v .answer)
 
-    pub try-accepted : {c : Float} {last : List Float} → r ≡ trial.Accepted c → last ≡ accepted after
-        → (outcome.Tried r ≡ tried m l price step before) × (last ≡ tryLeaves (outcome.Tried r) before then)
-    try-accepted a f = (answered, f ∙ ap accepted (v .poses) ∙ ap (λ (z : Trial). tryLeaves (outcome.Tried z) before then) (sym a))
+    pub try-accepted : {c : Float} {last : List Float} → r ≡ trial.Accepted c → last ≡ takenOver after
+        → (outcome.Tried r ≡ tryAnswers m l price step before) × (last ≡ tryLeaves (outcome.Tried r) before then)
+    try-accepted a f = (answered, f ∙ ap takenOver (v .poses) ∙ ap (λ (z : Trial). tryLeaves (outcome.Tried z) before then) (sym a))
 
-    pub try-rejected : {w : Reason} → r ≡ trial.Rejected w → (outcome.Tried r ≡ tried m l price step before) × (after ≡ tryLeaves (outcome.Tried r) before then)
+    pub try-rejected : {w : Reason} → r ≡ trial.Rejected w → (outcome.Tried r ≡ tryAnswers m l price step before) × (after ≡ tryLeaves (outcome.Tried r) before then)
     try-rejected a = (answered, v .poses ∙ ap (λ (z : Trial). tryLeaves (outcome.Tried z) before then) (sym a))

@@ -75,12 +75,12 @@ abbrev pub trialIn : Manifold → (ℕ → Slot) → (ℕ → Float) → List Fl
 trialIn m slot δ w = take (half w) w ++ (movedNumbers m slot (take (half w) w) δ ++ drop (half w + half w) w)
 
 -- the trial's poses taken over as the accepted ones
-abbrev pub accepted : List Float → List Float
-accepted w = take (half w) (drop (half w) w) ++ drop (half w) w
+abbrev pub takenOver : List Float → List Float
+takenOver w = take (half w) (drop (half w) w) ++ drop (half w) w
 
 -- what the step comes to, its trial judged against the cost so far
-unfoldable pub tried : Manifold → Links Edge → Float → List Float → List Float → Outcome
-tried m l cost step w =
+unfoldable pub tryAnswers : Manifold → Links Edge → Float → List Float → List Float → Outcome
+tryAnswers m l cost step w =
     let δ : ℕ → Float = λ i. getD step i nan in
     heard cost
     (if-then (lt (normOf δ (length step)) stepTolerance) raw.Small
@@ -90,5 +90,5 @@ tried m l cost step w =
 abbrev pub tryLeaves : Outcome → List Float → List Float → List Float
 tryLeaves outcome.Failed before w = before
 tryLeaves outcome.Small before w = before
-tryLeaves (outcome.Tried (trial.Accepted c)) before w = accepted w
+tryLeaves (outcome.Tried (trial.Accepted c)) before w = takenOver w
 tryLeaves (outcome.Tried (trial.Rejected r)) before w = w

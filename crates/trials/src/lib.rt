@@ -5,7 +5,7 @@ ghost use Prim.Native.Nat.{_≤_, _*_};
 ghost use lib.ListN.{length, getD};
 ghost use lib.Ieee.{nan};
 ghost use Rattle.graph.specs.Lent.{slotIn, lentLinks};
-ghost use Rattle.trials.specs.Trials.{normOf, partOf, accepted, tried, tryLeaves, trialIn};
+ghost use Rattle.trials.specs.Trials.{normOf, partOf, takenOver, tryAnswers, tryLeaves, trialIn};
 ghost use Rattle.trials.specs.forms.Passes.{Moves, Retracted, Evaluated};
 use costs::Cost;
 use decisions::Numerical;
@@ -98,7 +98,7 @@ fn retract_free(m: Manifold, blocks: &[u32; 256], free: u32, step: &[f32], w: &m
 
 // The trial's poses become the accepted ones.
 fn accept(w: &mut [f64])
-    ensures { λ _. ⌜ now (w .exit) ≡ accepted (now (w .entry)) ⌝ }
+    ensures { λ _. ⌜ now (w .exit) ≡ takenOver (now (w .entry)) ⌝ }
 {
     let half = (w.len() / 24) * 12;
     let mut i = 0usize;
@@ -143,7 +143,7 @@ pub fn try_step(
     step: &[f32],
     w: &mut [f64],
 ) -> Outcome
-    ensures { λ r. ⌜ r ≡ tried m (lentLinks (now (ends .entry)) (now (edges .entry)) (now (blocks .entry)) free) cost (now (step .entry)) (now (w .entry)) ⌝ }
+    ensures { λ r. ⌜ r ≡ tryAnswers m (lentLinks (now (ends .entry)) (now (edges .entry)) (now (blocks .entry)) free) cost (now (step .entry)) (now (w .entry)) ⌝ }
     ensures { λ r. ⌜ now (w .exit) ≡ tryLeaves r (now (w .entry)) (trialIn m (slotIn (now (blocks .entry)) free) (λ i. getD (now (step .entry)) i nan) (now (w .entry))) ⌝ }
 {
     let norm = l2_norm(step);

@@ -14,7 +14,7 @@ use lib.Ieee.{Float}
 use Rattle.numbers.specs.Notation.{if-then}
 use Rattle.numbers.proofs.Tables.{is-table}
 use Rattle.profile.specs.Layout.{need}
-use Rattle.profile.specs.Starts.{startOf, roomFor}
+use Rattle.profile.specs.Starts.{startOf, orderFor}
 use Rattle.profile.proofs.starts.Statement.{statement}
 use Rattle.profile.proofs.starts.Tie as tie
 
@@ -24,8 +24,8 @@ Inv-loop w n m f₀ i₀ f i = (i ≤ 384) × (length f ≡ 384) × ((q : ℕ) �
 abbrev μ-loop : tie.MeasureT-loop
 μ-loop w n m f₀ i₀ f i = 384 - i
 
-within : (len n : ℕ) → roomFor len n * roomFor len n ≤ len
-unfolding roomFor if-then
+within : (len n : ℕ) → orderFor len n * orderFor len n ≤ len
+unfolding orderFor if-then
 within len n = go (leb (need n) len) (leb-true (need n) len)
   where
     go : (b : Bool) → (b ≡ true → need n ≤ len) → if-then b n 0 * if-then b n 0 ≤ len
@@ -38,14 +38,14 @@ more f i x s l h e =
     (λ q g. getD-set-other f i q x 0 (λ z. omega arith) ∙ h q g)
     (getD-set-same f i x 0 l ∙ e)
 
-room-for-requires : tie.Need-room-for-requires Inv-loop μ-loop
-room-for-requires c κs = tt
+order-for-requires : tie.Need-order-for-requires Inv-loop μ-loop
+order-for-requires c κs = tt
 
 loop-holds : tie.Need-loop-holds Inv-loop μ-loop
 loop-holds c = (omega arith, length-replicate {A = ℕ} 384 0, λ q l. absurd (omega arith))
 
 first-in-requires : tie.Need-first-in-requires Inv-loop μ-loop
-first-in-requires c κs = let m = c .before .before .room-for in rw (m .ensures) (within _ _)
+first-in-requires c κs = let m = c .before .before .order-for in rw (m .ensures) (within _ _)
 
 mul-f : tie.Need-mul-f Inv-loop μ-loop
 mul-f c = omega arith
@@ -66,7 +66,7 @@ loop-again c =
 
 returns : tie.Need-returns Inv-loop μ-loop
 returns c =
-    let m = c .before .before .room-for in
+    let m = c .before .before .order-for in
     let w = now (c .before .before .before .before .args .w) in
     let e : c .before .loop .i ≡ 384 = omega arith in
     is-table 0 (c .before .loop .f) (startOf w (m .result)) 384 (c .before .loop .inv .1) (rw e at (c .before .loop .inv .2)) ∙ rw (m .ensures)
@@ -77,7 +77,7 @@ starts-spec =
     (tie.spec
     Inv-loop
     μ-loop
-    room-for-requires
+    order-for-requires
     loop-holds
     first-in-requires
     mul-f

@@ -67,8 +67,8 @@ pub record Holds (job : Job) (l : Links Edge) (x w32 : List Float) : Type 0 wher
   pub work : w32 ≡ workAfter system (job .n) steps
 
 -- where no system is to be assembled, it stands in the work
-abbrev pub Ready : Job → Links Edge → State → List Float → List Float → Type 0
-Ready job l s x w32 = s .fresh ≡ false → Holds job l x w32
+abbrev pub AtTop : Job → Links Edge → State → List Float → List Float → Type 0
+AtTop job l s x w32 = s .fresh ≡ false → Holds job l x w32
 
 -- what an assembly comes to, its gradient's norm tested
 abbrev pub assemblyIn : Job → Assembled → List Float → Assembly
@@ -103,7 +103,7 @@ pub record Turned (job : Job) (l : Links Edge) (s : State) (before : List Float)
       ≡ afterTurn (job .settings .limit) (job .settings .«cost_tolerance») s (numerics (partsIn job l) .assemble (heldIn job before))
       (numerics (partsIn job l) .attempt (heldIn job before) (s .damping))
   pub held : heldIn job after ≡ movedOn s (stateOf r) (numerics (partsIn job l) .moved (heldIn job before) (s .damping)) (heldIn job before)
-  pub holds : (t : State) → r ≡ next.On t → Ready job l t (heldIn job after) w32
+  pub holds : (t : State) → r ≡ next.On t → AtTop job l t (heldIn job after) w32
 
 -- ---- the run
 

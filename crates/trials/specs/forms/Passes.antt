@@ -1,4 +1,5 @@
--- What the private functions of a trial promise; the public promises are `tried` and `leaves` of Trials.antt, and nothing here adds to them. Definitions only.
+-- What the private functions of a trial promise. `try-accepted` and `try-rejected` of proofs/Trying tie it to the public promises, `tryAnswers` and `tryLeaves`.
+-- Definitions only.
 use Prim.Native.Nat.{ℕ, _/_, _<_}
 use mathlib.Core.Path.{_≡_}
 use mathlib.Core.Bool.{Bool}
