@@ -26,8 +26,8 @@ use Rattle.line.specs.FloatText.{floatText}
 use Rattle.line.specs.declared.Line.{Line}
 use Rattle.line.proofs.Lines.{shown-whole, used-whole}
 use Rattle.line.proofs.FloatSamples.{float-length}
-use Rattle.telling.specs.Telling.{joinedCosts, measuresFour}
-use Rattle.exports.specs.Closings.{LentScan, scanLists, gravityOf, closedNine, closedTold, closedWith, fitsClosing, textOut}
+use Rattle.telling.specs.Telling.{joinedCosts, measuresFour, fitsClosing}
+use Rattle.exports.specs.Closings.{LentScan, scanLists, gravityOf, closedNine, closedTold, closedWith, textOut}
 use Rattle.exports.proofs.Copies.{laid}
 
 -- ---- a scan's loops closed

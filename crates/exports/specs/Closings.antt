@@ -18,7 +18,7 @@ use Rattle.pose_graph.specs.declared.PgoConfig.{PgoConfig}
 use Rattle.pose_graph.specs.declared.Closed.{Closed}
 use Rattle.pose_graph.specs.declared.Closed.the-variants as closed
 use Rattle.line.specs.FloatText.{floatText}
-use Rattle.telling.specs.Telling.{judgedNine, refusedNine, measuresFour}
+use Rattle.telling.specs.Telling.{judgedNine, refusedNine, measuresFour, fitsClosing}
 use Rattle.exports.specs.Layers.{unfitNumber, three}
 use Rattle.exports.specs.Exported.{numberOf, costsOf}
 
@@ -64,10 +64,6 @@ abbrev pub closedWith : LentScan → Closing → ℕ × LentScan
 closedWith l c =
     let told = closedTold (l .costs) (l .measures) (c .answer) in
     (told .0, scanLists (c .work32) (c .work64) (c .original) (c .out) (told .1) (told .2) (told .3))
-
--- gravity is no number or three
-abbrev pub fitsClosing : ℕ → ℕ → ℕ → ℕ → Bool
-fitsClosing gravity a costs measures = (eqb gravity 0 || eqb gravity 3) && (eqb a 9 && (eqb costs 2 && eqb measures 4))
 
 unfoldable pub closeOut : ℕ → PgoConfig → Scan → LentScan → ℕ × LentScan
 closeOut gravity c s l =

@@ -14,7 +14,7 @@ ghost use Rattle.profile.specs.Layout.{need};
 ghost use Rattle.decisions.specs.Run.{iterations};
 ghost use Rattle.job.specs.Format.{space, jobOf};
 ghost use Rattle.scans.specs.Scans.{scan};
-ghost use Rattle.exports.specs.Closings.{closedNine, scanLists, gravityOf, closedTold, fitsClosing, loopsOut, textOut};
+ghost use Rattle.exports.specs.Closings.{closedNine, scanLists, gravityOf, closedTold, loopsOut, textOut};
 ghost use Rattle.exports.specs.Jobs.{bits, readOut, writeOut};
 ghost use Rattle.exports.specs.Layers.{firstSix, matrixFrom, transformFrom, three};
 ghost use Rattle.exports.specs.Layers.{quaternionOut, productOut, inverseOut, logOut, expOut, retractOut, retractGravityOut, residualOut, solveOut};
@@ -723,13 +723,6 @@ pub extern "C" fn pgo_write_job(
 
 // ---- scans
 
-// Gravity is no number or three.
-fn closing_fits(gravity: usize, answer: usize, costs: usize, measures: usize) -> bool
-    ensures { λ r. ⌜ r ≡ fitsClosing gravity answer costs measures ⌝ }
-{
-    ((gravity == 0) | (gravity == 3)) & ((answer == 9) & ((costs == 2) & (measures == 4)))
-}
-
 fn nine_of(c: Closed) -> [u32; 9]
     ensures { λ r. ⌜ r ≡ closedNine c ⌝ }
 {
@@ -791,7 +784,7 @@ pub extern "C" fn pgo_close_loops(
         (scan (now (ids .entry)) (now (poses .entry)) (now (loops .entry)) (now («loop_poses» .entry)) weight)
         (scanLists (now (work32 .entry)) (now (work64 .entry)) (now (original .entry)) (now (out .entry)) (now (answer .entry)) (now (costs .entry)) (now (measures .entry))) ⌝ }
 {
-    if !closing_fits(gravity.len(), answer.len(), costs.len(), measures.len()) {
+    if !telling::closing_fits(gravity.len(), answer.len(), costs.len(), measures.len()) {
         return UNFIT;
     }
     let config = PgoConfig {

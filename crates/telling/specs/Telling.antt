@@ -1,8 +1,8 @@
 -- The numbers that a host program reads of what a layer, a run, a scan, a job or an assembly comes to. Definitions only.
 use Prim.Native.Nat.{ℕ}
-use mathlib.Core.Bool.{Bool, true, false}
+use mathlib.Core.Bool.{Bool, true, false, _&&_, _||_}
 use mathlib.Core.List.{List, [], _∷_, _++_}
-use lib.Dec.{ltb}
+use lib.Dec.{eqb, ltb}
 use lib.Ieee.{Float}
 use Rattle.numbers.specs.Notation.{if-then}
 use Rattle.numbers.specs.declared.Refusal.{Refusal}
@@ -82,6 +82,10 @@ refusedNine r = refusedEight r ++ (0 ∷ [])
 -- first cost, last cost, the last edge's residual before and after
 abbrev pub measuresFour : Measures → List Float
 measuresFour m = m .«initial_cost» ∷ m .«final_cost» ∷ m .«new_loop_residual_before» ∷ m .«new_loop_residual_after» ∷ []
+
+-- the lengths of what is lent for it; gravity is no number or three
+abbrev pub fitsClosing : ℕ → ℕ → ℕ → ℕ → Bool
+fitsClosing gravity a costs measures = (eqb gravity 0 || eqb gravity 3) && (eqb a 9 && (eqb costs 2 && eqb measures 4))
 
 -- ---- a job that was read: limit, cost tolerance, gradient tolerance, damping, poses, edges, fixed, 0
 

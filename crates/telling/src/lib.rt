@@ -1,7 +1,7 @@
 // Answers as the numbers that a host program reads: arrays of what a run, a job or an assembly comes to. Nothing is lent here.
 ghost use mathlib.Core.Path.{_≡_};
 ghost use Rattle.telling.specs.Telling.{quatNumbers, transformNumbers, place32, stopNumber, flag, joinedEight, joinedCosts, refusedEight, answerEight};
-ghost use Rattle.telling.specs.Telling.{readEight, readNumber, readAnswer, writtenNumber, writtenTwo, judgedNine, refusedNine, measuresFour, builtNumber};
+ghost use Rattle.telling.specs.Telling.{readEight, readNumber, readAnswer, writtenNumber, writtenTwo, judgedNine, refusedNine, measuresFour, fitsClosing, builtNumber};
 use assembly::Assembled;
 use decisions::Why;
 use job::Read;
@@ -147,6 +147,13 @@ pub fn measures_four(m: Measures) -> [f64; 4]
         m.new_loop_residual_before,
         m.new_loop_residual_after,
     ]
+}
+
+// Whether the lengths fit of what is lent for a scan: gravity is no number or three.
+pub fn closing_fits(gravity: usize, answer: usize, costs: usize, measures: usize) -> bool
+    ensures { λ r. ⌜ r ≡ fitsClosing gravity answer costs measures ⌝ }
+{
+    ((gravity == 0) | (gravity == 3)) & ((answer == 9) & ((costs == 2) & (measures == 4)))
 }
 
 // ---- jobs
