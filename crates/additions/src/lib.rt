@@ -4,6 +4,7 @@ ghost use mathlib.Core.Path.{_≡_};
 ghost use mathlib.Core.Bool.{_&&_};
 ghost use Prim.Native.Nat.{_+_, _*_, _<_, _≤_};
 ghost use lib.ListN.{length};
+ghost use Rattle.numbers.specs.Notation.{was, became};
 ghost use Rattle.numbers.specs.Walks.{only};
 ghost use Rattle.profile.specs.Layout.{need};
 ghost use Rattle.additions.specs.Additions.{fits, dotOf, dotWith, addTo, gradientAdded, lowerTriangle, entryAdded, rowAdded, blockAdded};
@@ -13,7 +14,7 @@ use numbers::Went;
 // Column i of a times column j of b: six products in residual order, from +0.
 fn dot(a: &[[f32; 6]; 6], i: usize, b: &[[f32; 6]; 6], j: usize) -> f32
     requires { ⌜ (i < 6) × (j < 6) ⌝ }
-    ensures { λ r. ⌜ r ≡ dotOf (now (a .entry)) i (now (b .entry)) j ⌝ }
+    ensures { λ r. ⌜ r ≡ dotOf (was a) i (was b) j ⌝ }
 {
     let mut s: f32 = 0.0;
     for k in 0..6usize {
@@ -25,7 +26,7 @@ fn dot(a: &[[f32; 6]; 6], i: usize, b: &[[f32; 6]; 6], j: usize) -> f32
 // Column i of a times a residual.
 fn dot_with(a: &[[f32; 6]; 6], i: usize, r: &[f32; 6]) -> f32
     requires { ⌜ i < 6 ⌝ }
-    ensures { λ s. ⌜ s ≡ dotWith (now (a .entry)) i (now (r .entry)) ⌝ }
+    ensures { λ s. ⌜ s ≡ dotWith (was a) i (was r) ⌝ }
 {
     let mut s: f32 = 0.0;
     for k in 0..6usize {
@@ -37,7 +38,7 @@ fn dot_with(a: &[[f32; 6]; 6], i: usize, r: &[f32; 6]) -> f32
 // v is added to the number at a place, which must be finite then.
 fn add_to(w: &mut [f32], at: usize, v: f32) -> Went
     requires { ⌜ at < length (now w) ⌝ }
-    ensures { λ r. ⌜ (r, now (w .exit)) ≡ addTo (now (w .entry)) at v ⌝ }
+    ensures { λ r. ⌜ (r, became w) ≡ addTo (was w) at v ⌝ }
 {
     let s = w[at] + v;
     w[at] = s;
@@ -47,7 +48,7 @@ fn add_to(w: &mut [f32], at: usize, v: f32) -> Went
 // A pose's gradient, in the part of the work that starts at its block.
 fn accumulate_gradient(part: &mut [f32], dof: usize, j: &[[f32; 6]; 6], r: &[f32; 6]) -> Went
     requires { ⌜ (dof ≤ 6) × (dof ≤ length (now part)) ⌝ }
-    ensures { λ went. ⌜ (went, now (part .exit)) ≡ gradientAdded dof (now (j .entry)) (now (r .entry)) (now (part .entry)) ⌝ }
+    ensures { λ went. ⌜ (went, became part) ≡ gradientAdded dof (was j) (was r) (was part) ⌝ }
 {
     for c in 0..dof {
         let v = dot_with(j, c, r);
@@ -70,7 +71,7 @@ fn add_entry(
     c: usize,
 ) -> Went
     requires { ⌜ (row < n) × (col < n) × (need n ≤ length (now w)) × (r < 6) × (c < 6) ⌝ }
-    ensures { λ went. ⌜ (went, now (w .exit)) ≡ entryAdded lowerTriangle n row col (now (jr .entry)) r (now (jc .entry)) c (now (w .entry)) ⌝ }
+    ensures { λ went. ⌜ (went, became w) ≡ entryAdded lowerTriangle n row col (was jr) r (was jc) c (was w) ⌝ }
 {
     if row < col {
         return Went::Well;
@@ -91,7 +92,7 @@ fn accumulate_row(
     r: usize,
 ) -> Went
     requires { ⌜ (rb * dof + dof ≤ n) × (cb * dof + dof ≤ n) × (need n ≤ length (now w)) × (dof ≤ 6) × (r < dof) ⌝ }
-    ensures { λ went. ⌜ (went, now (w .exit)) ≡ rowAdded lowerTriangle n dof rb cb (now (jr .entry)) (now (jc .entry)) r (now (w .entry)) ⌝ }
+    ensures { λ went. ⌜ (went, became w) ≡ rowAdded lowerTriangle n dof rb cb (was jr) (was jc) r (was w) ⌝ }
 {
     for c in 0..dof {
         if let Went::Bad(why) = add_entry(w, n, rb * dof + r, cb * dof + c, jr, r, jc, c) {
@@ -112,7 +113,7 @@ fn accumulate_hessian(
     jc: &[[f32; 6]; 6],
 ) -> Went
     requires { ⌜ (rb * dof + dof ≤ n) × (cb * dof + dof ≤ n) × (need n ≤ length (now w)) × (dof ≤ 6) ⌝ }
-    ensures { λ went. ⌜ (went, now (w .exit)) ≡ blockAdded lowerTriangle n dof rb cb (now (jr .entry)) (now (jc .entry)) (now (w .entry)) ⌝ }
+    ensures { λ went. ⌜ (went, became w) ≡ blockAdded lowerTriangle n dof rb cb (was jr) (was jc) (was w) ⌝ }
 {
     for r in 0..dof {
         if let Went::Bad(why) = accumulate_row(w, n, dof, rb, cb, jr, jc, r) {
@@ -148,7 +149,7 @@ fn end_within(
     r: &[f32; 6],
 ) -> Went
     requires { ⌜ (b * dof + dof ≤ n) × (need n ≤ length (now w)) × (dof ≤ 6) ⌝ }
-    ensures { λ went. ⌜ (went, now (w .exit)) ≡ endAdded lowerTriangle n dof b (now (j .entry)) (now (r .entry)) (now (w .entry)) ⌝ }
+    ensures { λ went. ⌜ (went, became w) ≡ endAdded lowerTriangle n dof b (was j) (was r) (was w) ⌝ }
 {
     let at = n * n + n + b * dof;
     if let Went::Bad(why) = accumulate_gradient(&mut w[at..], dof, j, r) {
@@ -166,7 +167,7 @@ pub fn add_end(
     j: &[[f32; 6]; 6],
     r: &[f32; 6],
 ) -> Went
-    ensures { λ went. ⌜ (went, now (w .exit)) ≡ only (fits n dof b (length (now (w .entry)))) (endAdded lowerTriangle n dof b (now (j .entry)) (now (r .entry))) (now (w .entry)) ⌝ }
+    ensures { λ went. ⌜ (went, became w) ≡ only (fits n dof b (length (was w))) (endAdded lowerTriangle n dof b (was j) (was r)) (was w) ⌝ }
 {
     if !block_fits(w.len(), n, dof, b) {
         return Went::Well;
@@ -185,7 +186,7 @@ fn add_cross(
     jb: &[[f32; 6]; 6],
 ) -> Went
     requires { ⌜ (ba * dof + dof ≤ n) × (bb * dof + dof ≤ n) × (need n ≤ length (now w)) × (dof ≤ 6) ⌝ }
-    ensures { λ went. ⌜ (went, now (w .exit)) ≡ crossAdded lowerTriangle n dof ba bb (now (ja .entry)) (now (jb .entry)) (now (w .entry)) ⌝ }
+    ensures { λ went. ⌜ (went, became w) ≡ crossAdded lowerTriangle n dof ba bb (was ja) (was jb) (was w) ⌝ }
 {
     if ba < bb {
         return accumulate_hessian(w, n, dof, bb, ba, jb, ja);
@@ -204,7 +205,7 @@ pub fn add_ends(
     jb: &[[f32; 6]; 6],
     r: &[f32; 6],
 ) -> Went
-    ensures { λ went. ⌜ (went, now (w .exit)) ≡ only (fits n dof i (length (now (w .entry))) && fits n dof k (length (now (w .entry)))) (endsAdded lowerTriangle n dof i k (now (ja .entry)) (now (jb .entry)) (now (r .entry))) (now (w .entry)) ⌝ }
+    ensures { λ went. ⌜ (went, became w) ≡ only (fits n dof i (length (was w)) && fits n dof k (length (was w))) (endsAdded lowerTriangle n dof i k (was ja) (was jb) (was r)) (was w) ⌝ }
 {
     if !block_fits(w.len(), n, dof, i) {
         return Went::Well;

@@ -3,6 +3,7 @@
 ghost use mathlib.Core.Path.{_≡_};
 ghost use Prim.Native.Nat.{_+_, _*_, _/_, _^_, _<_, _≤_};
 ghost use lib.ListN.{length};
+ghost use Rattle.numbers.specs.Notation.{was, became};
 ghost use Rattle.numbers.specs.Walks.{each};
 ghost use Rattle.profile.specs.Layout.{need};
 ghost use Rattle.additions.specs.Additions.{lowerTriangle};
@@ -44,7 +45,7 @@ struct Shape {
 
 fn fill_axis(known: &mut [f32], stance: Stance, x: usize, c: usize)
     requires { ⌜ (x < 256) × (c < 6) × (length (now known) ≡ 26624) ⌝ }
-    ensures { λ _. ⌜ Axis (probeBy stance) x c (now (known .entry)) (now (known .exit)) ⌝ }
+    ensures { λ _. ⌜ Axis (probeBy stance) x c (was known) (became known) ⌝ }
 {
     let probes = probes::probes_at(stance, c);
     let ahead = probes.ahead;
@@ -55,7 +56,7 @@ fn fill_axis(known: &mut [f32], stance: Stance, x: usize, c: usize)
 
 fn fill_probes(known: &mut [f32], stance: Stance, dof: usize, x: usize)
     requires { ⌜ (x < 256) × (dof ≤ 6) × (length (now known) ≡ 26624) ⌝ }
-    ensures { λ _. ⌜ Probed (probeBy stance) x dof (now (known .entry)) (now (known .exit)) ⌝ }
+    ensures { λ _. ⌜ Probed (probeBy stance) x dof (was known) (became known) ⌝ }
 {
     for c in 0..dof {
         fill_axis(known, stance, x, c);
@@ -65,7 +66,7 @@ fn fill_probes(known: &mut [f32], stance: Stance, dof: usize, x: usize)
 // The probes of a pose that is not free are not asked for.
 fn fill_pose(known: &mut [f32], m: Manifold, probing: Probing, poses: &[f64], slot: Slot, x: usize)
     requires { ⌜ (x < 256) × (probing ≡ probingOf m) × (length (now known) ≡ 26624) × Based (now poses) (now known) (knownPoses (length (now poses))) ⌝ }
-    ensures { λ _. ⌜ Posed slot (probesOf m (poseAt (now (poses .entry)) x)) x (dofOf m) (now (known .entry)) (now (known .exit)) ⌝ }
+    ensures { λ _. ⌜ Posed slot (probesOf m (poseAt (was poses) x)) x (dofOf m) (was known) (became known) ⌝ }
 {
     match slot {
         Slot::Fixed => {}
@@ -79,7 +80,7 @@ fn fill_pose(known: &mut [f32], m: Manifold, probing: Probing, poses: &[f64], sl
 
 fn fill(known: &mut [f32], m: Manifold, poses: &[f64], blocks: &[u32; 256], free: u32)
     requires { ⌜ length (now known) ≡ 26624 ⌝ }
-    ensures { λ _. ⌜ Ready m (now (poses .entry)) (slotIn (now (blocks .entry)) free) (now (known .exit)) 256 ⌝ }
+    ensures { λ _. ⌜ Ready m (was poses) (slotIn (was blocks) free) (became known) 256 ⌝ }
 {
     costs::fill_bases(known, poses);
     let probing = probes::probing_of(m);
@@ -94,7 +95,7 @@ fn fill(known: &mut [f32], m: Manifold, poses: &[f64], blocks: &[u32; 256], free
 // Edge k between poses a and b, with its residual.
 fn link(known: &[f32], poses: &[f64], edges: &[f32], a: usize, b: usize, k: usize) -> Linked
     requires { ⌜ Based (now poses) (now known) (knownPoses (length (now poses))) ⌝ }
-    ensures { λ r. ⌜ r ≡ linkedOf (checkedTransform (poseAt (now (poses .entry)) a)) (checkedTransform (poseAt (now (poses .entry)) b)) (edgeAt (now (edges .entry)) k) ⌝ }
+    ensures { λ r. ⌜ r ≡ linkedOf (checkedTransform (poseAt (was poses) a)) (checkedTransform (poseAt (was poses) b)) (edgeAt (was edges) k) ⌝ }
 {
     costs::linked_at(known, costs::known_poses(poses), poses, edges, a, b, k)
 }
@@ -111,7 +112,7 @@ fn add_one(
     block: usize,
 ) -> Went
     requires { ⌜ (block * dofOf m + dofOf m ≤ n) × (x < 256) × (length (now known) ≡ 26624) × SharesTurn (stowedProbes (now known) x) × (need n ≤ length (now w)) ⌝ }
-    ensures { λ went. ⌜ (went, now (w .exit)) ≡ oneIn (dofOf m) n (stowedProbes (now (known .entry)) x) linked end block (now (w .entry)) ⌝ }
+    ensures { λ went. ⌜ (went, became w) ≡ oneIn (dofOf m) n (stowedProbes (was known) x) linked end block (was w) ⌝ }
 {
     match linked {
         Linked::Bad(why) => Went::Bad(why),
@@ -140,7 +141,7 @@ fn add_both(
     k: usize,
 ) -> Went
     requires { ⌜ (i * dofOf m + dofOf m ≤ n) × (k * dofOf m + dofOf m ≤ n) × (a < 256) × (b < 256) × (length (now known) ≡ 26624) × SharesTurn (stowedProbes (now known) a) × SharesTurn (stowedProbes (now known) b) × (need n ≤ length (now w)) ⌝ }
-    ensures { λ went. ⌜ (went, now (w .exit)) ≡ bothIn (dofOf m) n (stowedProbes (now (known .entry)) a) (stowedProbes (now (known .entry)) b) linked i k (now (w .entry)) ⌝ }
+    ensures { λ went. ⌜ (went, became w) ≡ bothIn (dofOf m) n (stowedProbes (was known) a) (stowedProbes (was known) b) linked i k (was w) ⌝ }
 {
     match linked {
         Linked::Bad(why) => Went::Bad(why),
@@ -186,7 +187,7 @@ fn add_edge(
     k: usize,
 ) -> Went
     requires { ⌜ Shaped shape (now poses) (now blocks) (now known) × (need (shape .n) ≤ length (now w)) × (k < 2 ^ 62) ⌝ }
-    ensures { λ went. ⌜ (went, now (w .exit)) ≡ edgeStep lowerTriangle (shape .manifold) (shape .n) (lentLinks (now (ends .entry)) (now (edges .entry)) (now (blocks .entry)) (shape .free)) (poseAt (now (poses .entry))) k (now (w .entry)) ⌝ }
+    ensures { λ went. ⌜ (went, became w) ≡ edgeStep lowerTriangle (shape .manifold) (shape .n) (lentLinks (was ends) (was edges) (was blocks) (shape .free)) (poseAt (was poses)) k (was w) ⌝ }
 {
     let m = shape.manifold;
     let a = numbers::index_at(ends, k * 2);
@@ -222,7 +223,7 @@ fn add_edges(
     blocks: &[u32; 256],
 ) -> Assembled
     requires { ⌜ Shaped shape (now poses) (now blocks) (now known) × (need (shape .n) ≤ length (now w)) ⌝ }
-    ensures { λ r. ⌜ (r, now (w .exit)) ≡ assembledFrom (each (edgeStep lowerTriangle (shape .manifold) (shape .n) (lentLinks (now (ends .entry)) (now (edges .entry)) (now (blocks .entry)) (shape .free)) (poseAt (now (poses .entry)))) (length (now (ends .entry)) / 2) (now (w .entry))) ⌝ }
+    ensures { λ r. ⌜ (r, became w) ≡ assembledFrom (each (edgeStep lowerTriangle (shape .manifold) (shape .n) (lentLinks (was ends) (was edges) (was blocks) (shape .free)) (poseAt (was poses))) (length (was ends) / 2) (was w)) ⌝ }
 {
     for k in 0..ends.len() / 2 {
         if let Went::Bad(why) = add_edge(w, shape, known, poses, ends, edges, blocks, k) {
@@ -242,7 +243,7 @@ fn add_all(
     blocks: &[u32; 256],
 ) -> Assembled
     requires { ⌜ (shape .n ≡ dofOf (shape .manifold) * shape .free) × (shape .free ≤ 4294967295) × (length (now blocks) ≡ 256) × (need (shape .n) ≤ length (now w)) ⌝ }
-    ensures { λ r. ⌜ (r, now (w .exit)) ≡ assembledFrom (each (edgeStep lowerTriangle (shape .manifold) (shape .n) (lentLinks (now (ends .entry)) (now (edges .entry)) (now (blocks .entry)) (shape .free)) (poseAt (now (poses .entry)))) (length (now (ends .entry)) / 2) (now (w .entry))) ⌝ }
+    ensures { λ r. ⌜ (r, became w) ≡ assembledFrom (each (edgeStep lowerTriangle (shape .manifold) (shape .n) (lentLinks (was ends) (was edges) (was blocks) (shape .free)) (poseAt (was poses))) (length (was ends) / 2) (was w)) ⌝ }
 {
     let m = shape.manifold;
     let mut known = [0.0f32; 26624];
@@ -252,7 +253,7 @@ fn add_all(
 
 // The blocks lent are 256, which the code after it relies on: an array's length is known where it is taken as a slice.
 fn count_blocks(blocks: &[u32; 256]) -> usize
-    ensures { λ _. ⌜ length (now (blocks .entry)) ≡ 256 ⌝ }
+    ensures { λ _. ⌜ length (was blocks) ≡ 256 ⌝ }
 {
     let all = &blocks[..];
     all.len()
@@ -268,7 +269,7 @@ pub fn build_normal_system_with_mapping(
     blocks: &[u32; 256],
     free: u32,
 ) -> Assembled
-    ensures { λ r. ⌜ (r, now (w .exit)) ≡ assembledOf m (dofOf m * free) (lentLinks (now (ends .entry)) (now (edges .entry)) (now (blocks .entry)) free) (poseAt (now (poses .entry))) (now (w .entry)) ⌝ }
+    ensures { λ r. ⌜ (r, became w) ≡ assembledOf m (dofOf m * free) (lentLinks (was ends) (was edges) (was blocks) free) (poseAt (was poses)) (was w) ⌝ }
 {
     let n = graph::dof(m) * (free as usize);
     if !profile::has_room(w.len(), n) {

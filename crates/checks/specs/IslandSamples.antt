@@ -5,7 +5,7 @@ use Prim.Native.Nat.{ℕ}
 use lib.ListN.{replicate}
 use lib.Ieee.{Float, binary32, ofBits, add, sub, mul, eq, lt}
 use Rattle.numbers.specs.Notation.{num, ratio, if-then}
-use Rattle.numbers.specs.Numbers.{rounded}
+use Rattle.rounding.specs.Rounding.{rounded}
 use Rattle.numbers.specs.Walks.{some, count}
 use Rattle.numbers.specs.Refusals.{verdict}
 use Rattle.numbers.specs.declared.Verdict.{Verdict}

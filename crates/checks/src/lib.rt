@@ -5,7 +5,7 @@ ghost use mathlib.Core.List.{[]};
 ghost use Prim.Native.Nat.{ℕ, _/_, _^_, _<_};
 ghost use lib.Dec.{ltb};
 ghost use lib.ListN.{length, set, take};
-ghost use Rattle.numbers.specs.Notation.{if-then};
+ghost use Rattle.numbers.specs.Notation.{if-then, was, became};
 ghost use Rattle.numbers.specs.Refusals.{orElse, says, lowest, verdict};
 ghost use Rattle.numbers.specs.Walks.{some, count, table};
 ghost use Rattle.numbers.specs.declared.Verdict.the-variants.{Fine};
@@ -43,14 +43,14 @@ pub struct Checks {
 
 fn end_a(ends: &[u32], k: usize) -> usize
     requires { ⌜ k < 2 ^ 62 ⌝ }
-    ensures { λ r. ⌜ r ≡ endA (now (ends .entry)) k ⌝ }
+    ensures { λ r. ⌜ r ≡ endA (was ends) k ⌝ }
 {
     numbers::index_at(ends, k * 2)
 }
 
 fn end_b(ends: &[u32], k: usize) -> usize
     requires { ⌜ k < 2 ^ 62 ⌝ }
-    ensures { λ r. ⌜ r ≡ endB (now (ends .entry)) k ⌝ }
+    ensures { λ r. ⌜ r ≡ endB (was ends) k ⌝ }
 {
     numbers::index_at(ends, k * 2 + 1)
 }
@@ -66,7 +66,7 @@ fn shape_rows(
     fixed: &[u32],
     room: Room,
 ) -> Verdict
-    ensures { λ r. ⌜ r ≡ verdict (take 5 (graphRows (lent manifold (now (poses .entry)) (now (ends .entry)) (now (edges .entry)) (now (fixed .entry)) unset room))) ⌝ }
+    ensures { λ r. ⌜ r ≡ verdict (take 5 (graphRows (lent manifold (was poses) (was ends) (was edges) (was fixed) unset room))) ⌝ }
 {
     let v = rows::row_1(Verdict::Fine, manifold);
     let v = rows::row_2(v, poses.len(), ends.len(), edges.len(), room.out);
@@ -78,7 +78,7 @@ fn shape_rows(
 // ---- rows 6 to 11: pose by pose, edge by edge, entry by entry
 
 fn pose_6(poses: &[f64], x: usize) -> Verdict
-    ensures { λ r. ⌜ r ≡ says (poseFaults (lentGraph (now (poses .entry)) [] [] [])) x ⌝ }
+    ensures { λ r. ⌜ r ≡ says (poseFaults (lentGraph (was poses) [] [] [])) x ⌝ }
 {
     numbers::asked(
         Verdict::Fine,
@@ -90,7 +90,7 @@ fn pose_6(poses: &[f64], x: usize) -> Verdict
 
 // Row 6.
 fn pose_rows(v: Verdict, poses: &[f64]) -> Verdict
-    ensures { λ r. ⌜ r ≡ orElse v (lowest (poseFaults (lentGraph (now (poses .entry)) [] [] [])) (length (now (poses .entry)) / 12)) ⌝ }
+    ensures { λ r. ⌜ r ≡ orElse v (lowest (poseFaults (lentGraph (was poses) [] [] [])) (length (was poses) / 12)) ⌝ }
 {
     let Verdict::Fine = v else {
         return v;
@@ -109,7 +109,7 @@ fn pose_rows(v: Verdict, poses: &[f64]) -> Verdict
 
 fn edge_says(poses: &[f64], ends: &[u32], edges: &[f32], k: usize) -> Verdict
     requires { ⌜ k < 2 ^ 62 ⌝ }
-    ensures { λ r. ⌜ r ≡ says (edgeFaults (lentGraph (now (poses .entry)) (now (ends .entry)) (now (edges .entry)) [])) k ⌝ }
+    ensures { λ r. ⌜ r ≡ says (edgeFaults (lentGraph (was poses) (was ends) (was edges) [])) k ⌝ }
 {
     let n = poses.len() / 12;
     let a = end_a(ends, k);
@@ -125,7 +125,7 @@ fn edge_says(poses: &[f64], ends: &[u32], edges: &[f32], k: usize) -> Verdict
 
 // Rows 7 to 10.
 fn edge_rows(v: Verdict, poses: &[f64], ends: &[u32], edges: &[f32]) -> Verdict
-    ensures { λ r. ⌜ r ≡ orElse v (lowest (edgeFaults (lentGraph (now (poses .entry)) (now (ends .entry)) (now (edges .entry)) [])) (length (now (ends .entry)) / 2)) ⌝ }
+    ensures { λ r. ⌜ r ≡ orElse v (lowest (edgeFaults (lentGraph (was poses) (was ends) (was edges) [])) (length (was ends) / 2)) ⌝ }
 {
     let Verdict::Fine = v else {
         return v;
@@ -144,7 +144,7 @@ fn edge_rows(v: Verdict, poses: &[f64], ends: &[u32], edges: &[f32]) -> Verdict
 
 // Row 11.
 fn fixed_rows(v: Verdict, n: usize, fixed: &[u32]) -> Verdict
-    ensures { λ r. ⌜ r ≡ orElse v (lowest (fixedFaults n (now (fixed .entry))) (length (now (fixed .entry)))) ⌝ }
+    ensures { λ r. ⌜ r ≡ orElse v (lowest (fixedFaults n (was fixed)) (length (was fixed))) ⌝ }
 {
     let Verdict::Fine = v else {
         return v;
@@ -169,7 +169,7 @@ fn list_rows(
     fixed: &[u32],
     room: Room,
 ) -> Verdict
-    ensures { λ r. ⌜ r ≡ verdict (take 8 (graphRows (lent manifold (now (poses .entry)) (now (ends .entry)) (now (edges .entry)) (now (fixed .entry)) unset room))) ⌝ }
+    ensures { λ r. ⌜ r ≡ verdict (take 8 (graphRows (lent manifold (was poses) (was ends) (was edges) (was fixed) unset room))) ⌝ }
 {
     let v = shape_rows(manifold, poses, ends, edges, fixed, room);
     let v = pose_rows(v, poses);
@@ -181,7 +181,7 @@ fn list_rows(
 
 // Sets the mark of pose x; a number past the array has none.
 fn mark(marks: &mut [bool; 256], x: usize, value: bool)
-    ensures { λ _. ⌜ now (marks .exit) ≡ if-then (ltb x 256) (set (now (marks .entry)) x value) (now (marks .entry)) ⌝ }
+    ensures { λ _. ⌜ became marks ≡ if-then (ltb x 256) (set (was marks) x value) (was marks) ⌝ }
 {
     if x < 256 {
         marks[x] = value;
@@ -190,7 +190,7 @@ fn mark(marks: &mut [bool; 256], x: usize, value: bool)
 
 // The poses that some edge names.
 fn named(ends: &[u32]) -> [bool; 256]
-    ensures { λ r. ⌜ r ≡ table (λ x. some (touches (lentGraph [] (now (ends .entry)) [] []) x) (length (now (ends .entry)) / 2)) 256 ⌝ }
+    ensures { λ r. ⌜ r ≡ table (λ x. some (touches (lentGraph [] (was ends) [] []) x) (length (was ends) / 2)) 256 ⌝ }
 {
     let mut marks = [false; 256];
     let n = ends.len() / 2;
@@ -205,7 +205,7 @@ fn named(ends: &[u32]) -> [bool; 256]
 
 // Those of them that are not fixed.
 fn free_poses(ends: &[u32], fixed: &[u32]) -> [bool; 256]
-    ensures { λ r. ⌜ r ≡ table (isFree (lentGraph [] (now (ends .entry)) [] (now (fixed .entry)))) 256 ⌝ }
+    ensures { λ r. ⌜ r ≡ table (isFree (lentGraph [] (was ends) [] (was fixed))) 256 ⌝ }
 {
     let mut marks = named(ends);
     let mut k = 0;
@@ -224,7 +224,7 @@ struct Blocks {
 
 // Free poses get the blocks 0, 1, 2 in pose order.
 fn numbered(ends: &[u32], fixed: &[u32]) -> Blocks
-    ensures { λ r. ⌜ (r .at ≡ table (blockNumber (lentGraph [] (now (ends .entry)) [] (now (fixed .entry)))) 256) × (r .free ≡ count (isFree (lentGraph [] (now (ends .entry)) [] (now (fixed .entry)))) 256) ⌝ }
+    ensures { λ r. ⌜ (r .at ≡ table (blockNumber (lentGraph [] (was ends) [] (was fixed))) 256) × (r .free ≡ count (isFree (lentGraph [] (was ends) [] (was fixed))) 256) ⌝ }
 {
     let marks = free_poses(ends, fixed);
     let mut at = [4294967295u32; 256];
@@ -244,7 +244,7 @@ fn numbered(ends: &[u32], fixed: &[u32]) -> Blocks
 
 // A weight that is not zero; -0 is zero too.
 fn has_weight(edges: &[f32], k: usize) -> bool
-    ensures { λ r. ⌜ r ≡ weighs (lentGraph [] [] (now (edges .entry)) []) k ⌝ }
+    ensures { λ r. ⌜ r ≡ weighs (lentGraph [] [] (was edges) []) k ⌝ }
 {
     let e = graph::edge_at(edges, k);
     e.weight != 0.0
@@ -252,7 +252,7 @@ fn has_weight(edges: &[f32], k: usize) -> bool
 
 // Every pose of one label gets another.
 fn relabel(labels: &mut [u32], old: u32, new: u32)
-    ensures { λ _. ⌜ ((x : ℕ) → x < length (now (labels .entry)) → labelOf (now (labels .exit)) x ≡ renamed old new (labelOf (now (labels .entry)) x)) ⌝ }
+    ensures { λ _. ⌜ ((x : ℕ) → x < length (was labels) → labelOf (became labels) x ≡ renamed old new (labelOf (was labels) x)) ⌝ }
 {
     let mut x = 0;
     while x < labels.len() {
@@ -265,7 +265,7 @@ fn relabel(labels: &mut [u32], old: u32, new: u32)
 
 // Poses a and b, and all with their labels, get the larger of the two. A label is read as a block is: none past the end.
 fn merge_labels(labels: &mut [u32], a: usize, b: usize)
-    ensures { λ _. ⌜ MergesTwo a b (labelOf (now (labels .entry))) (labelOf (now (labels .exit))) ⌝ }
+    ensures { λ _. ⌜ MergesTwo a b (labelOf (was labels)) (labelOf (became labels)) ⌝ }
 {
     let p = graph::block_at(labels, a);
     let q = graph::block_at(labels, b);
@@ -280,7 +280,7 @@ fn merge_labels(labels: &mut [u32], a: usize, b: usize)
 
 // The labels of row 26: those of the blocks, and then, where nothing was said before, one for the ends of every edge of non-zero weight.
 fn labelled(v: Verdict, blocks: [u32; 256], ends: &[u32], edges: &[f32]) -> [u32; 256]
-    ensures { λ r. ⌜ (v ≡ Fine → Labelled (now (ends .entry)) (now (edges .entry)) blocks r) ⌝ }
+    ensures { λ r. ⌜ (v ≡ Fine → Labelled (was ends) (was edges) blocks r) ⌝ }
 {
     let Verdict::Fine = v else {
         return blocks;
@@ -298,7 +298,7 @@ fn labelled(v: Verdict, blocks: [u32; 256], ends: &[u32], edges: &[f32]) -> [u32
 }
 
 fn pose_26(labels: &[u32; 256], x: usize) -> Verdict
-    ensures { λ r. ⌜ r ≡ says (labelFaults (now (labels .entry))) x ⌝ }
+    ensures { λ r. ⌜ r ≡ says (labelFaults (was labels)) x ⌝ }
 {
     let l = graph::block_at(labels, x);
     numbers::asked(Verdict::Fine, l != 4294967295, 26, x)
@@ -306,7 +306,7 @@ fn pose_26(labels: &[u32; 256], x: usize) -> Verdict
 
 // Row 26.
 fn island_rows(v: Verdict, labels: &[u32; 256], n: usize) -> Verdict
-    ensures { λ r. ⌜ r ≡ orElse v (lowest (labelFaults (now (labels .entry))) n) ⌝ }
+    ensures { λ r. ⌜ r ≡ orElse v (lowest (labelFaults (was labels)) n) ⌝ }
 {
     let Verdict::Fine = v else {
         return v;
@@ -342,7 +342,7 @@ pub fn validate_pose_graph(
     fixed: &[u32],
     room: Room,
 ) -> Checks
-    ensures { λ r. ⌜ r ≡ graphChecks (lent manifold (now (poses .entry)) (now (ends .entry)) (now (edges .entry)) (now (fixed .entry)) unset room) ⌝ }
+    ensures { λ r. ⌜ r ≡ graphChecks (lent manifold (was poses) (was ends) (was edges) (was fixed) unset room) ⌝ }
 {
     let b = numbered(ends, fixed);
     let free = b.free;
@@ -376,7 +376,7 @@ pub fn validate_optimizer_inputs(
     settings: Settings,
     room: Room,
 ) -> Checks
-    ensures { λ r. ⌜ r ≡ checks (lent manifold (now (poses .entry)) (now (ends .entry)) (now (edges .entry)) (now (fixed .entry)) settings room) ⌝ }
+    ensures { λ r. ⌜ r ≡ checks (lent manifold (was poses) (was ends) (was edges) (was fixed) settings room) ⌝ }
 {
     let c = validate_pose_graph(manifold, poses, ends, edges, fixed, room);
     let answer = c.answer;

@@ -4,7 +4,8 @@ use mathlib.Core.List.{List, [], _∷_, _++_, map}
 use Prim.Native.Nat.{ℕ}
 use lib.Ieee.{Float, binary32, binary64, ofBits, toBits, add, sub, mul, div, neg, lt, le}
 use Rattle.numbers.specs.Notation.{num, ratio, if-then}
-use Rattle.numbers.specs.Numbers.{rounded, rooted}
+use Rattle.rounding.specs.Rounding.{rounded}
+use Rattle.roots.specs.Roots.{rooted}
 use Rattle.numbers.specs.Walks.{each, mustBeFinite}
 use Rattle.rotations.specs.Rotation.{dot, cross, plus, minus, times, matrixOf, turned, conjugate, quatProduct, wide, finished, product, inverse, over}
 use Rattle.rotations.specs.FromMatrix.{halvedBy, byRule, quatOfMatrix}

@@ -2,6 +2,7 @@
 ghost use mathlib.Core.Path.{_≡_};
 ghost use Prim.Native.Nat.{_+_, _*_, _/_, _<_, _≤_};
 ghost use lib.ListN.{length};
+ghost use Rattle.numbers.specs.Notation.{was, became};
 ghost use Rattle.numbers.specs.Walks.{each, well, only};
 ghost use Rattle.graph.specs.Graph.{isBlock, isActive};
 ghost use Rattle.graph.specs.Lent.{poseAt, edgeAt, lentLinks};
@@ -46,7 +47,7 @@ fn eight_of(x: Converted) -> [f32; 8]
 
 fn put_cell(l: &mut [f32], e: usize, x: Converted)
     requires { ⌜ e * 8 + 8 ≤ length (now l) ⌝ }
-    ensures { λ _. ⌜ now (l .exit) ≡ withCell (now (l .entry)) e x ⌝ }
+    ensures { λ _. ⌜ became l ≡ withCell (was l) e x ⌝ }
 {
     let ns = eight_of(x);
     let at = e * 8;
@@ -59,7 +60,7 @@ fn put_cell(l: &mut [f32], e: usize, x: Converted)
 
 // Cell e becomes x, where it is lent.
 pub fn stow(l: &mut [f32], e: usize, x: Converted)
-    ensures { λ _. ⌜ now (l .exit) ≡ stowing (now (l .entry)) e x ⌝ }
+    ensures { λ _. ⌜ became l ≡ stowing (was l) e x ⌝ }
 {
     if e < l.len() / 8 {
         put_cell(l, e, x);
@@ -80,14 +81,14 @@ pub fn stowed_from(cell: Edge) -> Converted
 
 // What cell e holds.
 pub fn stowed(l: &[f32], e: usize) -> Converted
-    ensures { λ r. ⌜ r ≡ stowedIn (now (l .entry)) e ⌝ }
+    ensures { λ r. ⌜ r ≡ stowedIn (was l) e ⌝ }
 {
     stowed_from(graph::edge_at(l, e))
 }
 
 // How many poses are lent, of the first 256.
 pub fn known_poses(poses: &[f64]) -> usize
-    ensures { λ r. ⌜ r ≡ knownPoses (length (now (poses .entry))) ⌝ }
+    ensures { λ r. ⌜ r ≡ knownPoses (length (was poses)) ⌝ }
 {
     let count = poses.len() / 12;
     if count < 256 { count } else { 256 }
@@ -95,7 +96,7 @@ pub fn known_poses(poses: &[f64]) -> usize
 
 // The first cells become the transforms of the first poses.
 pub fn fill_bases(known: &mut [f32], poses: &[f64])
-    ensures { λ _. ⌜ now (known .exit) ≡ withBases (now (poses .entry)) (knownPoses (length (now (poses .entry)))) (now (known .entry)) ⌝ }
+    ensures { λ _. ⌜ became known ≡ withBases (was poses) (knownPoses (length (was poses))) (was known) ⌝ }
 {
     for x in 0..known_poses(poses) {
         let p = graph::pose_at(poses, x);
@@ -105,7 +106,7 @@ pub fn fill_bases(known: &mut [f32], poses: &[f64])
 
 // The transform of pose x: from its cell, if there is one.
 pub fn base_at(known: &[f32], count: usize, poses: &[f64], x: usize) -> Converted
-    ensures { λ r. ⌜ r ≡ baseIn (now (known .entry)) count (now (poses .entry)) x ⌝ }
+    ensures { λ r. ⌜ r ≡ baseIn (was known) count (was poses) x ⌝ }
 {
     if x < count {
         return stowed(known, x);
@@ -123,7 +124,7 @@ pub fn linked_at(
     b: usize,
     k: usize,
 ) -> Linked
-    ensures { λ r. ⌜ r ≡ linkedOf (baseIn (now (known .entry)) count (now (poses .entry)) a) (baseIn (now (known .entry)) count (now (poses .entry)) b) (edgeAt (now (edges .entry)) k) ⌝ }
+    ensures { λ r. ⌜ r ≡ linkedOf (baseIn (was known) count (was poses) a) (baseIn (was known) count (was poses) b) (edgeAt (was edges) k) ⌝ }
 {
     let from = base_at(known, count, poses, a);
     let to = base_at(known, count, poses, b);
@@ -181,7 +182,7 @@ fn active_edge_cost(
     c: f32,
 ) -> Priced
     requires { ⌜ (k < length (now ends) / 2) × Based (now poses) (now known) count ⌝ }
-    ensures { λ r. ⌜ r ≡ pricedFrom (only (isActive (lentLinks (now (ends .entry)) (now (edges .entry)) (now (blocks .entry)) free) k) (priceAt (lentLinks (now (ends .entry)) (now (edges .entry)) (now (blocks .entry)) free) (poseAt (now (poses .entry))) k) c) ⌝ }
+    ensures { λ r. ⌜ r ≡ pricedFrom (only (isActive (lentLinks (was ends) (was edges) (was blocks) free) k) (priceAt (lentLinks (was ends) (was edges) (was blocks) free) (poseAt (was poses)) k) c) ⌝ }
 {
     let a = numbers::index_at(ends, k * 2);
     let b = numbers::index_at(ends, k * 2 + 1);
@@ -207,7 +208,7 @@ fn cost_over(
     free: u32,
 ) -> Cost
     requires { ⌜ Based (now poses) (now known) count ⌝ }
-    ensures { λ r. ⌜ r ≡ costOf (lentLinks (now (ends .entry)) (now (edges .entry)) (now (blocks .entry)) free) (poseAt (now (poses .entry))) ⌝ }
+    ensures { λ r. ⌜ r ≡ costOf (lentLinks (was ends) (was edges) (was blocks) free) (poseAt (was poses)) ⌝ }
 {
     let all = ends.len() / 2;
     let mut c: f32 = 0.0;
@@ -230,7 +231,7 @@ pub fn active_total_squared_residual_cost(
     blocks: &[u32; 256],
     free: u32,
 ) -> Cost
-    ensures { λ r. ⌜ r ≡ costOf (lentLinks (now (ends .entry)) (now (edges .entry)) (now (blocks .entry)) free) (poseAt (now (poses .entry))) ⌝ }
+    ensures { λ r. ⌜ r ≡ costOf (lentLinks (was ends) (was edges) (was blocks) free) (poseAt (was poses)) ⌝ }
 {
     let mut known = [0.0f32; 2048];
     fill_bases(&mut known, poses);

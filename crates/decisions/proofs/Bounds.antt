@@ -14,7 +14,6 @@ use Rattle.numbers.specs.Notation.{num}
 use Rattle.numbers.proofs.Choices.{left}
 use Rattle.decisions.specs.Damping.{increased, decreased, lambdaMax}
 use Rattle.decisions.specs.Run.{begun, iterations, oneMore, afterTurn}
-use Rattle.decisions.specs.Driven.{settled, afterEvent, driven}
 use Rattle.decisions.specs.Demand.{Held}
 use Rattle.decisions.specs.Machine.{stateOf}
 use Rattle.decisions.specs.declared.State.{State}
@@ -22,8 +21,6 @@ use Rattle.decisions.specs.declared.Assembly.{Assembly}
 use Rattle.decisions.specs.declared.Assembly.the-variants as assembly
 use Rattle.decisions.specs.declared.Raw.{Raw}
 use Rattle.decisions.specs.declared.Raw.the-variants as raw
-use Rattle.decisions.specs.declared.Event.{Event}
-use Rattle.decisions.specs.declared.Event.the-variants as event
 use Rattle.decisions.specs.declared.Next.{Next}
 use Rattle.decisions.specs.declared.Next.the-variants as next
 use Rattle.numbers.proofs.Order.{lt-through}
@@ -65,7 +62,7 @@ pub record Live (limit : ℕ) (first : Float) (s : State) : Type 0 where
   pub lower : 0 < s .accepted → lt (s .cost) first ≡ true
 
 module _ (limit : ℕ) (first : Float) (s : State) (h : Live limit first s) where
-  live-held : Held limit first s
+  pub live-held : Held limit first s
   live-held =
       record {
         trials = h .trials;
@@ -178,22 +175,6 @@ module _ (limit : ℕ) (tolerance first : Float) where
   pub turn-keeps : (s : State) (a : Assembly) (e : Raw) → Live limit first s → Kept limit first (afterTurn limit tolerance s a e)
   turn-keeps s a e h = turn-cases (Live limit first) (Held limit first) limit tolerance s (ways limit first s h) a e
 
-  settled-keeps : (n : Next) → Kept limit first n → Kept limit first (settled limit n)
-  unfolding settled
-  settled-keeps (next.On s) h = either (Live limit first) (Held limit first) (s .fresh && leb limit (iterations s)) _ _ (λ e. live-held limit first s h) (λ e. h)
-  settled-keeps (next.Over s e) h = h
-
-  after-keeps : (n : Next) (v : Event) → Kept limit first n → Kept limit first (afterEvent limit tolerance n v)
-  unfolding afterEvent
-  after-keeps (next.On s) (event.Assembled a) h = either (Live limit first) (Held limit first) (s .fresh) _ _ (λ e. turn-keeps s a raw.Failed h) (λ e. h)
-  after-keeps (next.On s) (event.Solved e) h = turn-keeps s assembly.Steep e h
-  after-keeps (next.Over s e) v h = h
-
-  driven-keeps : (n : Next) (vs : List Event) → Kept limit first n → Kept limit first (driven limit tolerance n vs)
-  unfolding driven
-  driven-keeps n [] h = settled-keeps n h
-  driven-keeps n (v ∷ vs) h = driven-keeps (afterEvent limit tolerance (settled limit n) v) vs (after-keeps (settled limit n) v (settled-keeps n h))
-
 pub kept-held : (limit : ℕ) (first : Float) (n : Next) → Kept limit first n → Held limit first (stateOf n)
 kept-held limit first (next.On s) h = live-held limit first s h
 kept-held limit first (next.Over s e) h = h
@@ -211,9 +192,3 @@ module _ (limit : ℕ) (cost d : Float) (l : limit ≤ 1000) (f : T (fits binary
         kept = λ z. refl;
         lower = λ l. absurd (lt-irrefl 0 l);
       }
-
-  -- Demand 3, for every list of events
-  pub demand-three : (tolerance : Float) (vs : List Event) → Held limit cost (stateOf (driven limit tolerance (next.On (begun cost d)) vs))
-  demand-three tolerance vs =
-      let n = next.On (begun cost d) in
-      kept-held limit cost (driven limit tolerance n vs) (driven-keeps limit tolerance cost n vs begun-live)

@@ -5,7 +5,6 @@ ghost use lib.Dec.{leb};
 ghost use Rattle.decisions.specs.Damping.{increased, decreased};
 ghost use Rattle.decisions.specs.Run.{judged, heard, relative, begun, iterations, oneMore, failing, accepting, rejecting, solved};
 ghost use Rattle.decisions.specs.Run.{assembled, passed, afterTurn, stop, afterSmall};
-ghost use Rattle.decisions.specs.Driven.{eventOf, eventsOf, settled, afterEvent, driven};
 use numbers::Refusal;
 
 const LAMBDA_FACTOR: f32 = 10.0;
@@ -88,12 +87,6 @@ pub enum Gate {
 pub enum Next {
     On(State),
     Over(State, End),
-}
-
-// What a prepared list tells: how an assembly ended, or what a solve came to.
-pub enum Event {
-    Assembled(Assembly),
-    Solved(Raw),
 }
 
 pub fn increased_damping(damping: f32) -> f32
@@ -311,89 +304,4 @@ pub fn turn(s: State, limit: u32, tolerance: f32, a: Assembly, e: Raw) -> Next
         Gate::Stop(w) => Next::Over(s, w),
         Gate::Go => after_solve(s, limit, tolerance, hear(cost, e)),
     }
-}
-
-// ---- a prepared list
-
-pub fn event_of(number: u32, price: f32) -> Event
-    ensures { λ r. ⌜ r ≡ eventOf number price ⌝ }
-{
-    if number == 0 {
-        return Event::Assembled(Assembly::Refused(Refusal {
-            number: 21,
-            place: 0,
-        }));
-    }
-    if number == 1 {
-        return Event::Assembled(Assembly::Flat);
-    }
-    if number == 2 {
-        return Event::Solved(Raw::Failed);
-    }
-    if number == 3 {
-        return Event::Solved(Raw::Small);
-    }
-    if number == 4 {
-        return Event::Solved(Raw::Priced(price));
-    }
-    if number == 5 {
-        return Event::Solved(Raw::Numerical(Numerical::Retraction));
-    }
-    Event::Solved(Raw::Numerical(Numerical::Unpriced))
-}
-
-// Budget at the top needs no event.
-pub fn settle(limit: u32, n: Next) -> Next
-    ensures { λ r. ⌜ r ≡ settled limit n ⌝ }
-{
-    let Next::On(s) = n else {
-        return n;
-    };
-    let fresh = s.fresh;
-    if fresh & at_limit(s, limit) {
-        Next::Over(s, End::Stopped(Why::Budget))
-    } else {
-        n
-    }
-}
-
-// An assembly's event is passed over where none is due; before a solve's, an assembly that goes well is implied.
-pub fn after_event(limit: u32, tolerance: f32, n: Next, v: Event) -> Next
-    ensures { λ r. ⌜ r ≡ afterEvent limit tolerance n v ⌝ }
-{
-    let Next::On(s) = n else {
-        return n;
-    };
-    match v {
-        Event::Assembled(a) => {
-            let fresh = s.fresh;
-            if fresh {
-                turn(s, limit, tolerance, a, Raw::Failed)
-            } else {
-                n
-            }
-        }
-        Event::Solved(e) => turn(s, limit, tolerance, Assembly::Steep, e),
-    }
-}
-
-// The run over event numbers, each with the price at its place.
-pub fn drive(
-    limit: u32,
-    tolerance: f32,
-    cost: f32,
-    damping: f32,
-    events: &[u32],
-    prices: &[f32],
-) -> Next
-    ensures { λ r. ⌜ r ≡ driven limit tolerance (Next.On (begun cost damping)) (eventsOf (now (events .entry)) (now (prices .entry))) ⌝ }
-{
-    let mut n = Next::On(begin(cost, damping));
-    let mut i = 0;
-    while i < events.len() {
-        let v = event_of(events[i], numbers::at32(prices, i));
-        n = after_event(limit, tolerance, settle(limit, n), v);
-        i += 1;
-    }
-    settle(limit, n)
 }

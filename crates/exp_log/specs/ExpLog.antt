@@ -3,7 +3,8 @@ use Prim.Native.Nat.{ℕ, zero, suc}
 use mathlib.Core.List.{List, [], _∷_}
 use lib.Ieee.{Float, neg, lt}
 use Rattle.numbers.specs.Notation.{_⊕_, _⊖_, _⊗_, _⊘_, num, ratio, if-then}
-use Rattle.numbers.specs.Numbers.{narrowed, root64}
+use Rattle.rounding.specs.Rounding.{narrowed}
+use Rattle.roots.specs.Roots.{root64}
 use Rattle.rotations.specs.Rotation.{vec, dot, over, cross, plus, times, wide, finished}
 use Rattle.rotations.specs.declared.Vec3.{Vec3}
 use Rattle.rotations.specs.declared.Quat.{Quat}

@@ -4,7 +4,8 @@ use mathlib.Core.List.{List, [], _∷_, map}
 use Prim.Native.Nat.{ℕ, _+_}
 use lib.Ieee.{Float, binary32, ofBits, toBits, add, sub, mul, div, neg, lt, le}
 use Rattle.numbers.specs.Notation.{ratio, if-then}
-use Rattle.numbers.specs.Numbers.{rounded, rooted}
+use Rattle.rounding.specs.Rounding.{rounded}
+use Rattle.roots.specs.Roots.{rooted}
 use Rattle.rotations.specs.declared.Vec3.{Vec3}
 use Rattle.rotations.specs.declared.Vec3F32.{Vec3F32}
 use Rattle.rotations.specs.declared.QuatF32.{QuatF32}

@@ -157,7 +157,7 @@ fn small_bend(s: f64) -> Bend
 fn large_bend(s: f64, q: Quat, w: Vec3) -> Bend
     ensures { λ r. ⌜ r ≡ largeBend s q w ⌝ }
 {
-    let theta = numbers::sqrt64(s);
+    let theta = roots::sqrt64(s);
     let sine = rotations::dot_of(axis_of(q), w) / theta;
     Bend {
         b: 2.0 * sine * sine / s,
@@ -244,7 +244,7 @@ fn half(q: Quat) -> Quat
         x: q.x,
         y: q.y,
         z: q.z,
-        w: q.w + numbers::sqrt64(rotations::dot_of(v, v) + q.w * q.w),
+        w: q.w + roots::sqrt64(rotations::dot_of(v, v) + q.w * q.w),
     }
 }
 
@@ -306,7 +306,7 @@ fn unbend_of(q: Quat, w: Vec3) -> f64
         return TWELFTH + s * (INV_FACT_6 + s * INV_30240);
     }
     let v = axis_of(q);
-    (1.0 - numbers::sqrt64(s) / 2.0 * q.w / numbers::sqrt64(rotations::dot_of(v, v))) / s
+    (1.0 - roots::sqrt64(s) / 2.0 * q.w / roots::sqrt64(rotations::dot_of(v, v))) / s
 }
 
 // ω and D, from a quaternion alone.
@@ -369,14 +369,14 @@ pub fn narrow_twist(d: WideTwist) -> Twist
 {
     Twist {
         t: Vec3F32 {
-            x: numbers::narrow(d.t.x),
-            y: numbers::narrow(d.t.y),
-            z: numbers::narrow(d.t.z),
+            x: rounding::narrow(d.t.x),
+            y: rounding::narrow(d.t.y),
+            z: rounding::narrow(d.t.z),
         },
         r: Vec3F32 {
-            x: numbers::narrow(d.r.x),
-            y: numbers::narrow(d.r.y),
-            z: numbers::narrow(d.r.z),
+            x: rounding::narrow(d.r.x),
+            y: rounding::narrow(d.r.y),
+            z: rounding::narrow(d.r.z),
         },
     }
 }

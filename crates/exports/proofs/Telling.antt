@@ -18,18 +18,18 @@ use Rattle.rows.specs.Tests.{settingRows}
 use Rattle.rows.specs.declared.Settings.{Settings}
 use Rattle.checks.proofs.Passed.{passed-settings}
 use Rattle.decisions.specs.Run.{iterations, begun}
-use Rattle.decisions.specs.Driven.{driven}
+use Rattle.events.specs.Driven.{driven}
 use Rattle.decisions.specs.Machine.{stateOf}
-use Rattle.decisions.specs.declared.Event.{Event}
+use Rattle.events.specs.declared.Event.{Event}
 use Rattle.decisions.specs.declared.Next.the-variants as next
-use Rattle.decisions.proofs.Bounds.{demand-three}
+use Rattle.events.proofs.Demands.{demand-three}
 use Rattle.sparse_pgo.specs.Optimize.{optimized}
 use Rattle.sparse_pgo.specs.declared.Answer.{Answer}
 use Rattle.sparse_pgo.specs.declared.Answer.the-variants as answer
 use Rattle.sparse_pgo.specs.declared.Joined.{Joined}
 use Rattle.sparse_pgo.proofs.Looping.{not-above}
 use Rattle.telling.specs.Telling.{joinedCosts, answerEight}
-use Rattle.exports.specs.Exported.{Lent, lists, told, fitsRun, ranWith, fitsDecide}
+use Rattle.exports.specs.Exported.{LentRun, lists, told, fitsRun, ranWith, fitsDecide}
 use Rattle.exports.proofs.Copies.{laid}
 
 pub fit-run : (a c : ℕ) → fitsRun a c ≡ true → (a ≡ 8) × (c ≡ 2)
@@ -55,7 +55,7 @@ module _ (a : Answer) (found : List ℕ) (costs : List Float) {eight last : List
   pub told-refused : {r : Refusal} → a ≡ answer.Refused r → (r .number, last, costs) ≡ told costs a
   told-refused g = rw (whole, g)
 
-pub ran-told : (i : Input) (l : Lent) {a : Answer} {w32 w64 out : List Float} {r : ℕ} {eight : List ℕ} {costs : List Float}
+pub ran-told : (i : Input) (l : LentRun) {a : Answer} {w32 w64 out : List Float} {r : ℕ} {eight : List ℕ} {costs : List Float}
     → record { answer = a; work32 = w32; work64 = w64; out = out } ≡ optimized i (l .work32) (l .work64) (l .out)
     → (r, eight, costs) ≡ told (l .costs) a
     → (r, lists w32 w64 out eight costs) ≡ ranWith l (optimized i (l .work32) (l .work64) (l .out))

@@ -26,7 +26,7 @@ use Rattle.retraction.specs.Retraction.{unitOf}
 use Rattle.profile.specs.Layout.{need}
 use Rattle.assembly.specs.Assembly.{assembledEnds}
 use Rattle.decisions.specs.Run.{begun}
-use Rattle.decisions.specs.Driven.{driven, eventsOf}
+use Rattle.events.specs.Driven.{driven, eventsOf}
 use Rattle.decisions.specs.declared.Next.{Next}
 use Rattle.decisions.specs.declared.Next.the-variants as next
 use Rattle.sparse_pgo.specs.Parts.{answerOf, assemblyRow}
@@ -60,32 +60,32 @@ settings limit cost gradient damping =
 -- ---- pgo_optimize and pgo_optimize_with_gravity
 
 -- all that is lent to be written
-pub record Lent : Type 0 where
+pub record LentRun : Type 0 where
   pub work32 : List Float
   pub work64 : List Float
   pub out : List Float
   pub answer : List ℕ
   pub costs : List Float
 
-abbrev pub lists : List Float → List Float → List Float → List ℕ → List Float → Lent
+abbrev pub lists : List Float → List Float → List Float → List ℕ → List Float → LentRun
 lists work32 work64 out a c = record { work32 = work32; work64 = work64; out = out; answer = a; costs = c }
 
-abbrev pub roomOf : Lent → Room
+abbrev pub roomOf : LentRun → Room
 roomOf l = record { work32 = length (l .work32); work64 = length (l .work64); out = length (l .out) }
 
-abbrev pub ranWith : Lent → After → ℕ × Lent
+abbrev pub ranWith : LentRun → After → ℕ × LentRun
 ranWith l a =
     (numberOf (a .answer), lists (a .work32) (a .work64) (a .out) (answerEight (a .answer)) (costsOf (l .costs) (a .answer)))
 
 abbrev pub fitsRun : ℕ → ℕ → Bool
 fitsRun a costs = eqb a 8 && eqb costs 2
 
-unfoldable pub exported : Input → Lent → ℕ × Lent
+unfoldable pub exported : Input → LentRun → ℕ × LentRun
 exported i l =
     if-then (fitsRun (length (l .answer)) (length (l .costs))) (ranWith l (optimized i (l .work32) (l .work64) (l .out))) (unfitNumber, l)
 
 -- a run's lent lists, its room what is lent
-abbrev pub runOut : Manifold → List Float → List ℕ → List Float → List ℕ → Settings → Lent → ℕ × Lent
+abbrev pub runOut : Manifold → List Float → List ℕ → List Float → List ℕ → Settings → LentRun → ℕ × LentRun
 runOut m poses ends edges fixed set l = exported (lent m poses ends edges fixed set (roomOf l)) l
 
 -- ---- pgo_decide: rows 15 to 17 and 19 of its settings first; 1 where the list ended before the run did

@@ -4,8 +4,9 @@ ghost use mathlib.Core.Path.{_≡_};
 ghost use Prim.Native.Nat.{_+_, _*_, _<_, _≤_};
 ghost use lib.Dec.{eqb};
 ghost use lib.ListN.{length};
-ghost use Rattle.numbers.specs.Notation.{num, if-then, numberAt};
-ghost use Rattle.numbers.specs.Numbers.{narrowed, root32, root64};
+ghost use Rattle.numbers.specs.Notation.{num, if-then, numberAt, was, became};
+ghost use Rattle.rounding.specs.Rounding.{narrowed};
+ghost use Rattle.roots.specs.Roots.{root32, root64};
 ghost use Rattle.numbers.specs.Refusals.{verdict};
 ghost use Rattle.rotations.specs.Rotation.{vec};
 ghost use Rattle.graph.specs.Lent.{dofOf};
@@ -46,7 +47,7 @@ const UNFIT: u32 = 4294967295;
 
 fn vec32_from(l: &[f32], j: usize) -> Vec3F32
     requires { ⌜ j < 16 ⌝ }
-    ensures { λ r. ⌜ r ≡ record { x = numberAt (now (l .entry)) j; y = numberAt (now (l .entry)) (j + 1); z = numberAt (now (l .entry)) (j + 2) } ⌝ }
+    ensures { λ r. ⌜ r ≡ record { x = numberAt (was l) j; y = numberAt (was l) (j + 1); z = numberAt (was l) (j + 2) } ⌝ }
 {
     Vec3F32 {
         x: numbers::at32(l, j),
@@ -58,13 +59,13 @@ fn vec32_from(l: &[f32], j: usize) -> Vec3F32
 // Three f32 as a vector of f64.
 fn widened_from(l: &[f32], j: usize) -> Vec3
     requires { ⌜ j < 16 ⌝ }
-    ensures { λ r. ⌜ r ≡ vec (numberAt (now (l .entry)) j) (numberAt (now (l .entry)) (j + 1)) (numberAt (now (l .entry)) (j + 2)) ⌝ }
+    ensures { λ r. ⌜ r ≡ vec (numberAt (was l) j) (numberAt (was l) (j + 1)) (numberAt (was l) (j + 2)) ⌝ }
 {
     pose_conversion::vec3_to_f64(vec32_from(l, j))
 }
 
 fn vec_from(l: &[f64]) -> Vec3
-    ensures { λ r. ⌜ r ≡ three (now (l .entry)) ⌝ }
+    ensures { λ r. ⌜ r ≡ three (was l) ⌝ }
 {
     Vec3 {
         x: numbers::at64(l, 0),
@@ -74,7 +75,7 @@ fn vec_from(l: &[f64]) -> Vec3
 }
 
 fn matrix_from(l: &[f32]) -> Mat3F32
-    ensures { λ r. ⌜ r ≡ matrixFrom (now (l .entry)) ⌝ }
+    ensures { λ r. ⌜ r ≡ matrixFrom (was l) ⌝ }
 {
     Mat3F32 {
         x: vec32_from(l, 0),
@@ -84,7 +85,7 @@ fn matrix_from(l: &[f32]) -> Mat3F32
 }
 
 fn transform_from(l: &[f32]) -> Transform
-    ensures { λ r. ⌜ r ≡ transformFrom (now (l .entry)) ⌝ }
+    ensures { λ r. ⌜ r ≡ transformFrom (was l) ⌝ }
 {
     let q = QuatF32 {
         x: numbers::at32(l, 0),
@@ -100,7 +101,7 @@ fn transform_from(l: &[f32]) -> Transform
 
 // A step as `retract` takes it: of four numbers it looks at no more than four.
 fn step_from(l: &[f32]) -> [f32; 6]
-    ensures { λ r. ⌜ r ≡ firstSix (now (l .entry)) ⌝ }
+    ensures { λ r. ⌜ r ≡ firstSix (was l) ⌝ }
 {
     let a = vec32_from(l, 0);
     let b = vec32_from(l, 3);
@@ -113,26 +114,26 @@ fn step_from(l: &[f32]) -> [f32; 6]
 pub extern "C" fn pgo_narrow(x: f64) -> f32
     ensures { λ r. ⌜ r ≡ narrowed x ⌝ }
 {
-    numbers::narrow(x)
+    rounding::narrow(x)
 }
 
 #[no_mangle]
 pub extern "C" fn pgo_sqrt32(x: f32) -> f32
     ensures { λ r. ⌜ r ≡ root32 x ⌝ }
 {
-    numbers::sqrt32(x)
+    roots::sqrt32(x)
 }
 
 #[no_mangle]
 pub extern "C" fn pgo_sqrt64(x: f64) -> f64
     ensures { λ r. ⌜ r ≡ root64 x ⌝ }
 {
-    numbers::sqrt64(x)
+    roots::sqrt64(x)
 }
 
 #[no_mangle]
 pub extern "C" fn pgo_quaternion_of_matrix(m: &[f32], out: &mut [f32]) -> u32
-    ensures { λ r. ⌜ (r, now (out .exit)) ≡ quaternionOut (now (m .entry)) (now (out .entry)) ⌝ }
+    ensures { λ r. ⌜ (r, became out) ≡ quaternionOut (was m) (was out) ⌝ }
 {
     if !((m.len() == 9) & (out.len() == 4)) {
         return UNFIT;
@@ -144,9 +145,9 @@ pub extern "C" fn pgo_quaternion_of_matrix(m: &[f32], out: &mut [f32]) -> u32
 
 #[no_mangle]
 pub extern "C" fn pgo_product(a: &[f32], b: &[f32], out: &mut [f32]) -> u32
-    ensures { λ r. ⌜ (r, now (out .exit)) ≡ productOut (now (a .entry)) (now (b .entry)) (now (out .entry)) ⌝ }
+    ensures { λ r. ⌜ (r, became out) ≡ productOut (was a) (was b) (was out) ⌝ }
 {
-    if !((a.len() == 7) & ((b.len() == 7) & (out.len() == 7))) {
+    if !telling::product_fits(a.len(), b.len(), out.len()) {
         return UNFIT;
     }
     let p = rotations::product_of(transform_from(a), transform_from(b));
@@ -156,7 +157,7 @@ pub extern "C" fn pgo_product(a: &[f32], b: &[f32], out: &mut [f32]) -> u32
 
 #[no_mangle]
 pub extern "C" fn pgo_inverse(a: &[f32], out: &mut [f32]) -> u32
-    ensures { λ r. ⌜ (r, now (out .exit)) ≡ inverseOut (now (a .entry)) (now (out .entry)) ⌝ }
+    ensures { λ r. ⌜ (r, became out) ≡ inverseOut (was a) (was out) ⌝ }
 {
     if !((a.len() == 7) & (out.len() == 7)) {
         return UNFIT;
@@ -168,7 +169,7 @@ pub extern "C" fn pgo_inverse(a: &[f32], out: &mut [f32]) -> u32
 
 #[no_mangle]
 pub extern "C" fn pgo_exp(delta: &[f32], out: &mut [f32]) -> u32
-    ensures { λ r. ⌜ (r, now (out .exit)) ≡ expOut (now (delta .entry)) (now (out .entry)) ⌝ }
+    ensures { λ r. ⌜ (r, became out) ≡ expOut (was delta) (was out) ⌝ }
 {
     if !((delta.len() == 6) & (out.len() == 7)) {
         return UNFIT;
@@ -182,7 +183,7 @@ pub extern "C" fn pgo_exp(delta: &[f32], out: &mut [f32]) -> u32
 
 #[no_mangle]
 pub extern "C" fn pgo_log(t: &[f32], out: &mut [f32]) -> u32
-    ensures { λ r. ⌜ (r, now (out .exit)) ≡ logOut (now (t .entry)) (now (out .entry)) ⌝ }
+    ensures { λ r. ⌜ (r, became out) ≡ logOut (was t) (was out) ⌝ }
 {
     if !((t.len() == 7) & (out.len() == 6)) {
         return UNFIT;
@@ -194,7 +195,7 @@ pub extern "C" fn pgo_log(t: &[f32], out: &mut [f32]) -> u32
 
 #[no_mangle]
 pub extern "C" fn pgo_retract(pose: &[f64], delta: &[f32], out: &mut [f64]) -> u32
-    ensures { λ r. ⌜ (r, now (out .exit)) ≡ retractOut (now (pose .entry)) (now (delta .entry)) (now (out .entry)) ⌝ }
+    ensures { λ r. ⌜ (r, became out) ≡ retractOut (was pose) (was delta) (was out) ⌝ }
 {
     if !((pose.len() == 12) & ((delta.len() == 6) & (out.len() == 12))) {
         return UNFIT;
@@ -215,7 +216,7 @@ pub extern "C" fn pgo_retract_with_gravity(
     delta: &[f32],
     out: &mut [f64],
 ) -> u32
-    ensures { λ r. ⌜ (r, now (out .exit)) ≡ retractGravityOut (now (g .entry)) (now (pose .entry)) (now (delta .entry)) (now (out .entry)) ⌝ }
+    ensures { λ r. ⌜ (r, became out) ≡ retractGravityOut (was g) (was pose) (was delta) (was out) ⌝ }
 {
     if !((g.len() == 3) & ((pose.len() == 12) & ((delta.len() == 4) & (out.len() == 12)))) {
         return UNFIT;
@@ -231,7 +232,7 @@ pub extern "C" fn pgo_retract_with_gravity(
 
 #[no_mangle]
 pub extern "C" fn pgo_residual(a: &[f64], b: &[f64], edge: &[f32], out: &mut [f32]) -> u32
-    ensures { λ r. ⌜ (r, now (out .exit)) ≡ residualOut (now (a .entry)) (now (b .entry)) (now (edge .entry)) (now (out .entry)) ⌝ }
+    ensures { λ r. ⌜ (r, became out) ≡ residualOut (was a) (was b) (was edge) (was out) ⌝ }
 {
     if !((a.len() == 12) & ((b.len() == 12) & ((edge.len() == 8) & (out.len() == 6)))) {
         return UNFIT;
@@ -249,7 +250,7 @@ pub extern "C" fn pgo_residual(a: &[f64], b: &[f64], edge: &[f32], out: &mut [f3
 // The work is n (n + 3) numbers. No slice has as many as 2^31 unknowns take.
 #[no_mangle]
 pub extern "C" fn pgo_solve(work: &mut [f32], n: u32, damping: f32) -> u32
-    ensures { λ r. ⌜ (r, now (work .exit)) ≡ solveOut (now (work .entry)) n damping ⌝ }
+    ensures { λ r. ⌜ (r, became work) ≡ solveOut (was work) n damping ⌝ }
 {
     let k = n as usize;
     if 0x8000_0000 <= k {
@@ -276,7 +277,7 @@ fn run_fits(answer: usize, costs: usize) -> bool
 // The costs of a refusal stay as found.
 fn put_answer(answer: &mut [u32], costs: &mut [f32], a: Answer) -> u32
     requires { ⌜ (length (now answer) ≡ 8) × (length (now costs) ≡ 2) ⌝ }
-    ensures { λ r. ⌜ (r, now (answer .exit), now (costs .exit)) ≡ told (now (costs .entry)) a ⌝ }
+    ensures { λ r. ⌜ (r, became answer, became costs) ≡ told (was costs) a ⌝ }
 {
     slices::copy_counts(&telling::answer_eight(a), answer);
     match a {
@@ -301,9 +302,9 @@ fn run(
     answer: &mut [u32],
     costs: &mut [f32],
 ) -> u32
-    ensures { λ r. ⌜ (r, lists (now (work32 .exit)) (now (work64 .exit)) (now (out .exit)) (now (answer .exit)) (now (costs .exit)))
-        ≡ runOut m (now (poses .entry)) (now (ends .entry)) (now (edges .entry)) (now (fixed .entry)) set
-        (lists (now (work32 .entry)) (now (work64 .entry)) (now (out .entry)) (now (answer .entry)) (now (costs .entry))) ⌝ }
+    ensures { λ r. ⌜ (r, lists (became work32) (became work64) (became out) (became answer) (became costs))
+        ≡ runOut m (was poses) (was ends) (was edges) (was fixed) set
+        (lists (was work32) (was work64) (was out) (was answer) (was costs)) ⌝ }
 {
     if !run_fits(answer.len(), costs.len()) {
         return UNFIT;
@@ -339,10 +340,10 @@ pub extern "C" fn pgo_optimize(
     answer: &mut [u32],
     costs: &mut [f32],
 ) -> u32
-    ensures { λ r. ⌜ (r, lists (now (work32 .exit)) (now (work64 .exit)) (now (out .exit)) (now (answer .exit)) (now (costs .exit)))
-        ≡ runOut Manifold.Se3 (now (poses .entry)) (now (ends .entry)) (now (edges .entry)) (now (fixed .entry))
+    ensures { λ r. ⌜ (r, lists (became work32) (became work64) (became out) (became answer) (became costs))
+        ≡ runOut Manifold.Se3 (was poses) (was ends) (was edges) (was fixed)
         (settings limit «cost_tolerance» «gradient_tolerance» damping)
-        (lists (now (work32 .entry)) (now (work64 .entry)) (now (out .entry)) (now (answer .entry)) (now (costs .entry))) ⌝ }
+        (lists (was work32) (was work64) (was out) (was answer) (was costs)) ⌝ }
 {
     let set = Settings {
         limit,
@@ -385,10 +386,10 @@ pub extern "C" fn pgo_optimize_with_gravity(
     answer: &mut [u32],
     costs: &mut [f32],
 ) -> u32
-    ensures { λ r. ⌜ (r, lists (now (work32 .exit)) (now (work64 .exit)) (now (out .exit)) (now (answer .exit)) (now (costs .exit)))
-        ≡ runOut (Manifold.Gravity (vec gx gy gz)) (now (poses .entry)) (now (ends .entry)) (now (edges .entry)) (now (fixed .entry))
+    ensures { λ r. ⌜ (r, lists (became work32) (became work64) (became out) (became answer) (became costs))
+        ≡ runOut (Manifold.Gravity (vec gx gy gz)) (was poses) (was ends) (was edges) (was fixed)
         (settings limit «cost_tolerance» «gradient_tolerance» damping)
-        (lists (now (work32 .entry)) (now (work64 .entry)) (now (out .entry)) (now (answer .entry)) (now (costs .entry))) ⌝ }
+        (lists (was work32) (was work64) (was out) (was answer) (was costs)) ⌝ }
 {
     let set = Settings {
         limit,
@@ -426,12 +427,12 @@ enum Decided {
 
 // Where the settings don't pass their checks it is over at once.
 fn decide(set: Settings, cost: f32, events: &[u32], prices: &[f32]) -> Decided
-    ensures { λ r. ⌜ r ≡ decisionFrom set cost (now (events .entry)) (now (prices .entry)) (verdict (settingRows set)) ⌝ }
+    ensures { λ r. ⌜ r ≡ decisionFrom set cost (was events) (was prices) (verdict (settingRows set)) ⌝ }
 {
     if let Verdict::Refused(r) = rows::validate_settings(set) {
         return Decided::Ended(Answer::Refused(r));
     }
-    let n = decisions::drive(
+    let n = events::drive(
         set.limit,
         set.cost_tolerance,
         cost,
@@ -447,7 +448,7 @@ fn decide(set: Settings, cost: f32, events: &[u32], prices: &[f32]) -> Decided
 
 // Whether all are events: 0 to 6.
 fn known_events(events: &[u32]) -> bool
-    ensures { λ r. ⌜ r ≡ known (now (events .entry)) (length (now (events .entry))) ⌝ }
+    ensures { λ r. ⌜ r ≡ known (was events) (length (was events)) ⌝ }
 {
     let mut good = true;
     let mut i = 0usize;
@@ -459,7 +460,7 @@ fn known_events(events: &[u32]) -> bool
 }
 
 fn decide_fits(answer: usize, costs: usize, events: &[u32], prices: &[f32]) -> bool
-    ensures { λ r. ⌜ r ≡ fitsDecide answer costs (now (events .entry)) (now (prices .entry)) ⌝ }
+    ensures { λ r. ⌜ r ≡ fitsDecide answer costs (was events) (was prices) ⌝ }
 {
     let good = known_events(events);
     (answer == 8) & ((costs == 2) & ((events.len() == prices.len()) & good))
@@ -476,7 +477,7 @@ pub extern "C" fn pgo_decide(
     answer: &mut [u32],
     costs: &mut [f32],
 ) -> u32
-    ensures { λ r. ⌜ (r, now (answer .exit), now (costs .exit)) ≡ decided (settings limit tolerance (num 0) damping) cost (now (events .entry)) (now (prices .entry)) (now (answer .entry)) (now (costs .entry)) ⌝ }
+    ensures { λ r. ⌜ (r, became answer, became costs) ≡ decided (settings limit tolerance (num 0) damping) cost (was events) (was prices) (was answer) (was costs) ⌝ }
 {
     if !decide_fits(answer.len(), costs.len(), events, prices) {
         return UNFIT;
@@ -507,7 +508,7 @@ fn build_over(
     work: &mut [f32],
 ) -> u32
     requires { ⌜ (length (now work) ≡ need (dofOf m * free)) × (length (now work) ≤ length (now system)) ⌝ }
-    ensures { λ r. ⌜ (r, now (work .exit)) ≡ builtOut m (now (poses .entry)) (now (ends .entry)) (now (edges .entry)) (now (blocks .entry)) free (now (work .entry)) ⌝ }
+    ensures { λ r. ⌜ (r, became work) ≡ builtOut m (was poses) (was ends) (was edges) (was blocks) free (was work) ⌝ }
 {
     let count = work.len();
     let made = assembly::build_normal_system_with_mapping(
@@ -540,7 +541,7 @@ fn build_small(
     work: &mut [f32],
 ) -> u32
     requires { ⌜ (length (now work) ≡ need (dofOf m * free)) × (length (now work) ≤ 39004) ⌝ }
-    ensures { λ r. ⌜ (r, now (work .exit)) ≡ builtOut m (now (poses .entry)) (now (ends .entry)) (now (edges .entry)) (now (blocks .entry)) free (now (work .entry)) ⌝ }
+    ensures { λ r. ⌜ (r, became work) ≡ builtOut m (was poses) (was ends) (was edges) (was blocks) free (was work) ⌝ }
 {
     let mut system = [0.0f32; 39004];
     build_over(m, poses, ends, edges, blocks, free, &mut system, work)
@@ -557,7 +558,7 @@ fn build_middle(
     work: &mut [f32],
 ) -> u32
     requires { ⌜ (length (now work) ≡ need (dofOf m * free)) × (length (now work) ≤ 87318) ⌝ }
-    ensures { λ r. ⌜ (r, now (work .exit)) ≡ builtOut m (now (poses .entry)) (now (ends .entry)) (now (edges .entry)) (now (blocks .entry)) free (now (work .entry)) ⌝ }
+    ensures { λ r. ⌜ (r, became work) ≡ builtOut m (was poses) (was ends) (was edges) (was blocks) free (was work) ⌝ }
 {
     let mut system = [0.0f32; 87318];
     build_over(m, poses, ends, edges, blocks, free, &mut system, work)
@@ -574,7 +575,7 @@ fn build_large(
     work: &mut [f32],
 ) -> u32
     requires { ⌜ (length (now work) ≡ need (dofOf m * free)) × (length (now work) ≤ 148608) ⌝ }
-    ensures { λ r. ⌜ (r, now (work .exit)) ≡ builtOut m (now (poses .entry)) (now (ends .entry)) (now (edges .entry)) (now (blocks .entry)) free (now (work .entry)) ⌝ }
+    ensures { λ r. ⌜ (r, became work) ≡ builtOut m (was poses) (was ends) (was edges) (was blocks) free (was work) ⌝ }
 {
     let mut system = [0.0f32; 148608];
     build_over(m, poses, ends, edges, blocks, free, &mut system, work)
@@ -590,7 +591,7 @@ fn build(
     work: &mut [f32],
 ) -> u32
     requires { ⌜ (length (now work) ≡ need (dofOf m * free)) × (length (now work) ≤ 148608) ⌝ }
-    ensures { λ r. ⌜ (r, now (work .exit)) ≡ builtOut m (now (poses .entry)) (now (ends .entry)) (now (edges .entry)) (now (blocks .entry)) free (now (work .entry)) ⌝ }
+    ensures { λ r. ⌜ (r, became work) ≡ builtOut m (was poses) (was ends) (was edges) (was blocks) free (was work) ⌝ }
 {
     if work.len() <= 39004 {
         return build_small(m, poses, ends, edges, blocks, free, work);
@@ -609,7 +610,7 @@ fn assemble(
     fixed: &[u32],
     work: &mut [f32],
 ) -> u32
-    ensures { λ r. ⌜ (r, now (work .exit)) ≡ systemOf (assembling m (now (poses .entry)) (now (ends .entry)) (now (edges .entry)) (now (fixed .entry)) (now (work .entry))) (now (work .entry)) ⌝ }
+    ensures { λ r. ⌜ (r, became work) ≡ systemOf (assembling m (was poses) (was ends) (was edges) (was fixed) (was work)) (was work) ⌝ }
 {
     let room = Room {
         work32: work.len(),
@@ -657,7 +658,7 @@ pub extern "C" fn pgo_assemble(
     fixed: &[u32],
     work: &mut [f32],
 ) -> u32
-    ensures { λ r. ⌜ (r, now (work .exit)) ≡ assembleOut dof (now (gravity .entry)) (now (poses .entry)) (now (ends .entry)) (now (edges .entry)) (now (fixed .entry)) (now (work .entry)) ⌝ }
+    ensures { λ r. ⌜ (r, became work) ≡ assembleOut dof (was gravity) (was poses) (was ends) (was edges) (was fixed) (was work) ⌝ }
 {
     if !((gravity.len() == 3) & ((dof == 6) | (dof == 4))) {
         return UNFIT;
@@ -678,8 +679,8 @@ pub extern "C" fn pgo_read_job(
     fixed: &mut [u32],
     answer: &mut [u32],
 ) -> u32
-    ensures { λ r. ⌜ (r, space (now (poses .exit)) (now (ends .exit)) (now (edges .exit)) (now (fixed .exit)), now (answer .exit))
-        ≡ readOut (now (bytes .entry)) (space (now (poses .entry)) (now (ends .entry)) (now (edges .entry)) (now (fixed .entry))) (now (answer .entry)) ⌝ }
+    ensures { λ r. ⌜ (r, space (became poses) (became ends) (became edges) (became fixed), became answer)
+        ≡ readOut (was bytes) (space (was poses) (was ends) (was edges) (was fixed)) (was answer) ⌝ }
 {
     if answer.len() != 8 {
         return UNFIT;
@@ -703,9 +704,9 @@ pub extern "C" fn pgo_write_job(
     out: &mut [u8],
     answer: &mut [u32],
 ) -> u32
-    ensures { λ r. ⌜ (r, now (out .exit), now (answer .exit))
-        ≡ writeOut (jobOf (bits limit «cost_tolerance» «gradient_tolerance» damping) (space (now (poses .entry)) (now (ends .entry)) (now (edges .entry)) (now (fixed .entry))))
-        (now (out .entry)) (now (answer .entry)) ⌝ }
+    ensures { λ r. ⌜ (r, became out, became answer)
+        ≡ writeOut (jobOf (bits limit «cost_tolerance» «gradient_tolerance» damping) (space (was poses) (was ends) (was edges) (was fixed)))
+        (was out) (was answer) ⌝ }
 {
     if answer.len() != 2 {
         return UNFIT;
@@ -735,7 +736,7 @@ fn nine_of(c: Closed) -> [u32; 9]
 // The costs and the measures of a refusal stay as found.
 fn put_closed(answer: &mut [u32], costs: &mut [f32], measures: &mut [f64], c: Closed) -> u32
     requires { ⌜ (length (now answer) ≡ 9) × (length (now costs) ≡ 2) × (length (now measures) ≡ 4) ⌝ }
-    ensures { λ r. ⌜ (r, now (answer .exit), now (costs .exit), now (measures .exit)) ≡ closedTold (now (costs .entry)) (now (measures .entry)) c ⌝ }
+    ensures { λ r. ⌜ (r, became answer, became costs, became measures) ≡ closedTold (was costs) (was measures) c ⌝ }
 {
     slices::copy_counts(&nine_of(c), answer);
     match c {
@@ -749,7 +750,7 @@ fn put_closed(answer: &mut [u32], costs: &mut [f32], measures: &mut [f64], c: Cl
 }
 
 fn gravity_from(g: &[f64]) -> Manifold
-    ensures { λ r. ⌜ r ≡ gravityOf (now (g .entry)) ⌝ }
+    ensures { λ r. ⌜ r ≡ gravityOf (was g) ⌝ }
 {
     if g.len() == 0 {
         return Manifold::Se3;
@@ -779,10 +780,10 @@ pub extern "C" fn pgo_close_loops(
     costs: &mut [f32],
     measures: &mut [f64],
 ) -> u32
-    ensures { λ r. ⌜ (r, scanLists (now (work32 .exit)) (now (work64 .exit)) (now (original .exit)) (now (out .exit)) (now (answer .exit)) (now (costs .exit)) (now (measures .exit)))
-        ≡ loopsOut weight (settings limit «cost_tolerance» «gradient_tolerance» damping) (now (gravity .entry))
-        (scan (now (ids .entry)) (now (poses .entry)) (now (loops .entry)) (now («loop_poses» .entry)) weight)
-        (scanLists (now (work32 .entry)) (now (work64 .entry)) (now (original .entry)) (now (out .entry)) (now (answer .entry)) (now (costs .entry)) (now (measures .entry))) ⌝ }
+    ensures { λ r. ⌜ (r, scanLists (became work32) (became work64) (became original) (became out) (became answer) (became costs) (became measures))
+        ≡ loopsOut weight (settings limit «cost_tolerance» «gradient_tolerance» damping) (was gravity)
+        (scan (was ids) (was poses) (was loops) (was «loop_poses») weight)
+        (scanLists (was work32) (was work64) (was original) (was out) (was answer) (was costs) (was measures)) ⌝ }
 {
     if !telling::closing_fits(gravity.len(), answer.len(), costs.len(), measures.len()) {
         return UNFIT;
@@ -814,7 +815,7 @@ pub extern "C" fn pgo_close_loops(
 // A float with six significant digits, at the start of out; how many bytes.
 #[no_mangle]
 pub extern "C" fn pgo_float_text(x: f64, out: &mut [u8]) -> u32
-    ensures { λ r. ⌜ (r, now (out .exit)) ≡ textOut x (now (out .entry)) ⌝ }
+    ensures { λ r. ⌜ (r, became out) ≡ textOut x (was out) ⌝ }
 {
     if out.len() != 16 {
         return UNFIT;

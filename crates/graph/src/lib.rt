@@ -3,6 +3,7 @@ ghost use mathlib.Core.Path.{_≡_};
 ghost use Prim.Native.Nat.{_+_, _^_, _<_};
 ghost use lib.ListN.{getD};
 ghost use lib.Ieee.{nan};
+ghost use Rattle.numbers.specs.Notation.{was};
 ghost use Rattle.rotations.specs.Rotation.{vec};
 ghost use Rattle.graph.specs.Lent.{dofOf, poseFrom, poseAt, numbersOf, edgeFrom, edgeAt, none, slotIn};
 use rotations::Mat3;
@@ -46,7 +47,7 @@ pub fn dof(m: Manifold) -> usize
 // Three numbers of a pose that starts at `at`, from its j-th on.
 fn vec3_at(poses: &[f64], at: usize, j: usize) -> Vec3
     requires { ⌜ (at < 2 ^ 63) × (j < 12) ⌝ }
-    ensures { λ r. ⌜ r ≡ vec (getD (now (poses .entry)) (at + j) nan) (getD (now (poses .entry)) (at + (j + 1)) nan) (getD (now (poses .entry)) (at + (j + 2)) nan) ⌝ }
+    ensures { λ r. ⌜ r ≡ vec (getD (was poses) (at + j) nan) (getD (was poses) (at + (j + 1)) nan) (getD (was poses) (at + (j + 2)) nan) ⌝ }
 {
     Vec3 {
         x: numbers::at64(poses, at + j),
@@ -69,7 +70,7 @@ fn no_pose() -> Pose
 
 // Pose x; NaNs past the end of what is lent.
 pub fn pose_at(poses: &[f64], x: usize) -> Pose
-    ensures { λ r. ⌜ r ≡ poseAt (now (poses .entry)) x ⌝ }
+    ensures { λ r. ⌜ r ≡ poseAt (was poses) x ⌝ }
 {
     if FAR <= x {
         return no_pose();
@@ -110,7 +111,7 @@ pub fn numbers_of(p: Pose) -> [f64; 12]
 // The transform that starts at `at`.
 fn transform_at(edges: &[f32], at: usize) -> Transform
     requires { ⌜ at < 2 ^ 63 ⌝ }
-    ensures { λ r. ⌜ r ≡ edgeFrom (λ j. getD (now (edges .entry)) (at + j) nan) .measured ⌝ }
+    ensures { λ r. ⌜ r ≡ edgeFrom (λ j. getD (was edges) (at + j) nan) .measured ⌝ }
 {
     Transform {
         q: QuatF32 {
@@ -148,7 +149,7 @@ fn no_edge() -> Edge
 
 // Edge k; NaNs past the end of what is lent.
 pub fn edge_at(edges: &[f32], k: usize) -> Edge
-    ensures { λ r. ⌜ r ≡ edgeAt (now (edges .entry)) k ⌝ }
+    ensures { λ r. ⌜ r ≡ edgeAt (was edges) k ⌝ }
 {
     if FAR <= k {
         return no_edge();
@@ -162,7 +163,7 @@ pub fn edge_at(edges: &[f32], k: usize) -> Edge
 
 // The x-th block; none past the end.
 pub fn block_at(blocks: &[u32], x: usize) -> u32
-    ensures { λ r. ⌜ r ≡ getD (now (blocks .entry)) x none ⌝ }
+    ensures { λ r. ⌜ r ≡ getD (was blocks) x none ⌝ }
 {
     if x < blocks.len() {
         blocks[x]
@@ -173,7 +174,7 @@ pub fn block_at(blocks: &[u32], x: usize) -> u32
 
 // The slot of pose x in an array of blocks.
 pub fn slot_at(blocks: &[u32; 256], free: u32, x: usize) -> Slot
-    ensures { λ r. ⌜ r ≡ slotIn (now (blocks .entry)) free x ⌝ }
+    ensures { λ r. ⌜ r ≡ slotIn (was blocks) free x ⌝ }
 {
     let b = block_at(blocks, x);
     if b < free {

@@ -3,6 +3,7 @@ ghost use mathlib.Core.Path.{_≡_};
 ghost use mathlib.Core.Bool.{true, false};
 ghost use Prim.Native.Nat.{_+_, _*_, _<_, _≤_};
 ghost use lib.ListN.{length};
+ghost use Rattle.numbers.specs.Notation.{was, became};
 ghost use Rattle.graph.specs.Lent.{dofOf, edgeAt};
 ghost use Rattle.costs.specs.Stowed.{stowedFrom};
 ghost use Rattle.jacobians.specs.Jacobians.{slope, slopeVec, derivative, putSix, codeOf, wentOf};
@@ -90,7 +91,7 @@ fn column_by(ahead: Edge, behind: Edge, both: BothResiduals) -> Residual
 // Cell e, all of which is lent, so that its length is not tested, unlike in `graph::edge_at`.
 fn stowed_at(known: &[f32], e: usize) -> Edge
     requires { ⌜ e * 8 + 8 ≤ length (now known) ⌝ }
-    ensures { λ r. ⌜ r ≡ edgeAt (now (known .entry)) e ⌝ }
+    ensures { λ r. ⌜ r ≡ edgeAt (was known) e ⌝ }
 {
     let at = e * 8;
     Edge {
@@ -115,7 +116,7 @@ fn stowed_at(known: &[f32], e: usize) -> Edge
 // by side, of a cell that holds nothing too, and asked after that.
 fn column(known: &[f32], x: usize, l: Link, end: EdgeEndpoint, shift: Hinge, c: usize) -> Residual
     requires { ⌜ (x < 256) × (c < 6) × (26624 ≤ length (now known)) ⌝ }
-    ensures { λ r. ⌜ r ≡ columnShared l end shift c (edgeAt (now (known .entry)) (spot x c true)) (edgeAt (now (known .entry)) (spot x c false)) ⌝ }
+    ensures { λ r. ⌜ r ≡ columnShared l end shift c (edgeAt (was known) (spot x c true)) (edgeAt (was known) (spot x c false)) ⌝ }
 {
     let ahead = stowed_at(known, 256 + (x * 12 + c));
     let behind = stowed_at(known, 256 + (x * 12 + (6 + c)));
@@ -132,7 +133,7 @@ fn column(known: &[f32], x: usize, l: Link, end: EdgeEndpoint, shift: Hinge, c: 
 // A column filled in, row by row.
 fn put_six(j: &mut [[f32; 6]; 6], c: usize, d: Twist)
     requires { ⌜ c < 6 ⌝ }
-    ensures { λ _. ⌜ now (j .exit) ≡ putSix (now (j .entry)) c d ⌝ }
+    ensures { λ _. ⌜ became j ≡ putSix (was j) c d ⌝ }
 {
     j[0][c] = d.t.x;
     j[1][c] = d.t.y;
@@ -175,7 +176,7 @@ fn columns(
     code: &mut u32,
 ) -> [[f32; 6]; 6]
     requires { ⌜ (x < 256) × (26624 ≤ length (now known)) ⌝ }
-    ensures { λ r. ⌜ (now (code .exit) ≡ codeOf (jacobianBy (dofOf m) l end shift (cellsOf (now (known .entry)) x) .0)) × (r ≡ jacobianBy (dofOf m) l end shift (cellsOf (now (known .entry)) x) .1) ⌝ }
+    ensures { λ r. ⌜ (became code ≡ codeOf (jacobianBy (dofOf m) l end shift (cellsOf (was known) x) .0)) × (r ≡ jacobianBy (dofOf m) l end shift (cellsOf (was known) x) .1) ⌝ }
 {
     let mut j = [[0.0f32; 6]; 6];
     let dof = graph::dof(m);
@@ -194,7 +195,7 @@ fn columns(
 
 // The first probe of pose x, if all cells are lent and it is one of the 256 poses.
 fn first_probe(known: &[f32], x: usize) -> Converted
-    ensures { λ r. ⌜ r ≡ firstProbe (now (known .entry)) x ⌝ }
+    ensures { λ r. ⌜ r ≡ firstProbe (was known) x ⌝ }
 {
     if known.len() < 26624 {
         return Converted::Bad(Failure::Numerical);
@@ -214,7 +215,7 @@ pub fn edge_endpoint_jacobian(
     end: EdgeEndpoint,
     code: &mut u32,
 ) -> [[f32; 6]; 6]
-    ensures { λ r. ⌜ (now (code .exit) ≡ codeOf (jacobianAt (now (known .entry)) x (dofOf m) l end .0)) × (r ≡ jacobianAt (now (known .entry)) x (dofOf m) l end .1) ⌝ }
+    ensures { λ r. ⌜ (became code ≡ codeOf (jacobianAt (was known) x (dofOf m) l end .0)) × (r ≡ jacobianAt (was known) x (dofOf m) l end .1) ⌝ }
 {
     let first = match first_probe(known, x) {
         Converted::Into(t) => rotations::widened(t),

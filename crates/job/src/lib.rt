@@ -4,6 +4,7 @@ ghost use mathlib.Core.List.{_++_};
 ghost use Prim.Native.Nat.{_+_, _*_, _/_, _<_, _≤_, _^_, min};
 ghost use lib.Dec.{ltb};
 ghost use lib.ListN.{length};
+ghost use Rattle.numbers.specs.Notation.{was, became};
 ghost use Rattle.numbers.specs.Refusals.{refusal, says};
 ghost use Rattle.numbers.specs.Walks.{strung};
 ghost use Rattle.job.specs.Bytes.{valueAt, valuesAt, bytesOf, bytesFrom, pasted};
@@ -74,7 +75,7 @@ fn wide32(x: u32) -> u64
 // The number of the w bytes of s from `at` on, the low byte first.
 fn value_at(s: &[u8], at: usize, w: usize) -> u64
     requires { ⌜ (at + w ≤ length (now s)) × (w ≤ 8) ⌝ }
-    ensures { λ r. ⌜ (r ≡ valueAt w (now (s .entry)) at) × (r < 256 ^ w) ⌝ }
+    ensures { λ r. ⌜ (r ≡ valueAt w (was s) at) × (r < 256 ^ w) ⌝ }
 {
     let mut i = w;
     let mut r: u64 = 0;
@@ -87,7 +88,7 @@ fn value_at(s: &[u8], at: usize, w: usize) -> u64
 
 fn value32_at(s: &[u8], at: usize) -> u32
     requires { ⌜ at + 4 ≤ length (now s) ⌝ }
-    ensures { λ r. ⌜ r ≡ valueAt 4 (now (s .entry)) at ⌝ }
+    ensures { λ r. ⌜ r ≡ valueAt 4 (was s) at ⌝ }
 {
     value_at(s, at, 4) as u32
 }
@@ -95,7 +96,7 @@ fn value32_at(s: &[u8], at: usize) -> u32
 // Reads the n numbers of eight bytes that stand in s from `at` on into `to` from `from` on.
 fn take64(s: &[u8], at: usize, to: &mut [u64], from: usize, n: usize)
     requires { ⌜ (at + 8 * n ≤ length (now s)) × (from + n ≤ length (now to)) ⌝ }
-    ensures { λ _. ⌜ now (to .exit) ≡ pasted from (valuesAt 8 n (now (s .entry)) at) (now (to .entry)) ⌝ }
+    ensures { λ _. ⌜ became to ≡ pasted from (valuesAt 8 n (was s) at) (was to) ⌝ }
 {
     let mut i = 0usize;
     while i < n {
@@ -108,7 +109,7 @@ fn take64(s: &[u8], at: usize, to: &mut [u64], from: usize, n: usize)
 // The same for numbers of four bytes.
 fn take32(s: &[u8], at: usize, to: &mut [u32], from: usize, n: usize)
     requires { ⌜ (at + 4 * n ≤ length (now s)) × (from + n ≤ length (now to)) ⌝ }
-    ensures { λ _. ⌜ now (to .exit) ≡ pasted from (valuesAt 4 n (now (s .entry)) at) (now (to .entry)) ⌝ }
+    ensures { λ _. ⌜ became to ≡ pasted from (valuesAt 4 n (was s) at) (was to) ⌝ }
 {
     let mut i = 0usize;
     while i < n {
@@ -121,7 +122,7 @@ fn take32(s: &[u8], at: usize, to: &mut [u32], from: usize, n: usize)
 // Puts x into out from `at` on, as w bytes.
 fn put(out: &mut [u8], at: usize, x: u64, w: usize)
     requires { ⌜ at + w ≤ length (now out) ⌝ }
-    ensures { λ _. ⌜ now (out .exit) ≡ pasted at (bytesOf w x) (now (out .entry)) ⌝ }
+    ensures { λ _. ⌜ became out ≡ pasted at (bytesOf w x) (was out) ⌝ }
 {
     let mut i = 0usize;
     let mut rest = x;
@@ -135,7 +136,7 @@ fn put(out: &mut [u8], at: usize, x: u64, w: usize)
 // Puts n numbers of ns, from `from` on, into out from `at` on, eight bytes each.
 fn put64(out: &mut [u8], at: usize, ns: &[u64], from: usize, n: usize)
     requires { ⌜ (at + 8 * n ≤ length (now out)) × (from + n ≤ length (now ns)) ⌝ }
-    ensures { λ _. ⌜ now (out .exit) ≡ pasted at (bytesFrom 8 n (now (ns .entry)) from) (now (out .entry)) ⌝ }
+    ensures { λ _. ⌜ became out ≡ pasted at (bytesFrom 8 n (was ns) from) (was out) ⌝ }
 {
     let mut i = 0usize;
     while i < n {
@@ -147,7 +148,7 @@ fn put64(out: &mut [u8], at: usize, ns: &[u64], from: usize, n: usize)
 // The same, four bytes each.
 fn put32(out: &mut [u8], at: usize, ns: &[u32], from: usize, n: usize)
     requires { ⌜ (at + 4 * n ≤ length (now out)) × (from + n ≤ length (now ns)) ⌝ }
-    ensures { λ _. ⌜ now (out .exit) ≡ pasted at (bytesFrom 4 n (now (ns .entry)) from) (now (out .entry)) ⌝ }
+    ensures { λ _. ⌜ became out ≡ pasted at (bytesFrom 4 n (was ns) from) (was out) ⌝ }
 {
     let mut i = 0usize;
     while i < n {
@@ -192,7 +193,7 @@ fn stop(number: u32, place: usize) -> Step
 
 // Behind the end record nothing may stand.
 fn close(s: &[u8], at: usize) -> Step
-    ensures { λ r. ⌜ r ≡ closed (says (endFaults (now (s .entry))) at) ⌝ }
+    ensures { λ r. ⌜ r ≡ closed (says (endFaults (was s)) at) ⌝ }
 {
     if at < s.len() {
         return stop(30, at);
@@ -224,7 +225,7 @@ fn count(kind: u64, had: Tally) -> Tally
 // The record at c: a cut header, then a bad length, kind or order, a cut body, one too many; else what stands behind it.
 fn step_at(room: Tally, s: &[u8], c: Cursor) -> Step
     requires { ⌜ CursorIn (now s) c ⌝ }
-    ensures { λ r. ⌜ r ≡ recordStep room (now (s .entry)) c ⌝ }
+    ensures { λ r. ⌜ r ≡ recordStep room (was s) c ⌝ }
 {
     let at = c.at;
     let had = c.had;
@@ -271,7 +272,7 @@ fn start() -> Cursor
 }
 
 fn scan(room: Tally, s: &[u8]) -> Scanned
-    ensures { λ r. ⌜ r ≡ scannedAs (reading room (now (s .entry))) ⌝ }
+    ensures { λ r. ⌜ r ≡ scannedAs (reading room (was s)) ⌝ }
 {
     let mut c = start();
     loop {
@@ -300,7 +301,7 @@ fn take_record(
     fixed: &mut [u32],
 )
     requires { ⌜ (CursorIn (now s) c) × (faultOf (roomIn (space (now poses) (now ends) (now edges) (now fixed))) (now s) c ≡ Verdict.Fine) ⌝ }
-    ensures { λ _. ⌜ space (now (poses .exit)) (now (ends .exit)) (now (edges .exit)) (now (fixed .exit)) ≡ taking (now (s .entry)) c (space (now (poses .entry)) (now (ends .entry)) (now (edges .entry)) (now (fixed .entry))) ⌝ }
+    ensures { λ _. ⌜ space (became poses) (became ends) (became edges) (became fixed) ≡ taking (was s) c (space (was poses) (was ends) (was edges) (was fixed)) ⌝ }
 {
     let at = c.at;
     let had = c.had;
@@ -328,7 +329,7 @@ fn take_records(
     fixed: &mut [u32],
 )
     requires { ⌜ (room ≡ roomIn (space (now poses) (now ends) (now edges) (now fixed))) × IsTaken (reading room (now s)) ⌝ }
-    ensures { λ _. ⌜ space (now (poses .exit)) (now (ends .exit)) (now (edges .exit)) (now (fixed .exit)) ≡ filledBy (reading room (now (s .entry))) (space (now (poses .entry)) (now (ends .entry)) (now (edges .entry)) (now (fixed .entry))) ⌝ }
+    ensures { λ _. ⌜ space (became poses) (became ends) (became edges) (became fixed) ≡ filledBy (reading room (was s)) (space (was poses) (was ends) (was edges) (was fixed)) ⌝ }
 {
     let mut c = start();
     loop {
@@ -349,7 +350,7 @@ fn take_records(
 
 fn settings_in(s: &[u8]) -> SettingBits
     requires { ⌜ 20 ≤ length (now s) ⌝ }
-    ensures { λ r. ⌜ r ≡ settingsFrom (valuesAt 4 4 (now (s .entry)) 4) ⌝ }
+    ensures { λ r. ⌜ r ≡ settingsFrom (valuesAt 4 4 (was s) 4) ⌝ }
 {
     SettingBits {
         limit: value32_at(s, 4),
@@ -386,7 +387,7 @@ pub fn read_job(
     edges: &mut [u32],
     fixed: &mut [u32],
 ) -> Read
-    ensures { λ r. ⌜ (r, space (now (poses .exit)) (now (ends .exit)) (now (edges .exit)) (now (fixed .exit))) ≡ readInto (now (bytes .entry)) (space (now (poses .entry)) (now (ends .entry)) (now (edges .entry)) (now (fixed .entry))) ⌝ }
+    ensures { λ r. ⌜ (r, space (became poses) (became ends) (became edges) (became fixed)) ≡ readInto (was bytes) (space (was poses) (was ends) (was edges) (was fixed)) ⌝ }
 {
     let room = room_in(poses.len(), ends.len(), edges.len(), fixed.len());
     match scan(room, bytes) {
@@ -403,7 +404,7 @@ pub fn read_job(
 // The length of a record's body, and its kind.
 fn put_header(out: &mut [u8], at: usize, len: u64, kind: u64)
     requires { ⌜ at + 4 ≤ length (now out) ⌝ }
-    ensures { λ _. ⌜ now (out .exit) ≡ pasted at (bytesOf 2 len ++ bytesOf 2 kind) (now (out .entry)) ⌝ }
+    ensures { λ _. ⌜ became out ≡ pasted at (bytesOf 2 len ++ bytesOf 2 kind) (was out) ⌝ }
 {
     put(out, at, len, 2);
     put(out, at + 2, kind, 2);
@@ -411,7 +412,7 @@ fn put_header(out: &mut [u8], at: usize, len: u64, kind: u64)
 
 fn put_settings(out: &mut [u8], t: SettingBits)
     requires { ⌜ 20 ≤ length (now out) ⌝ }
-    ensures { λ _. ⌜ now (out .exit) ≡ pasted 0 (settingsRecord (settingNumbers t)) (now (out .entry)) ⌝ }
+    ensures { λ _. ⌜ became out ≡ pasted 0 (settingsRecord (settingNumbers t)) (was out) ⌝ }
 {
     let ns = [t.limit, t.cost_tolerance, t.gradient_tolerance, t.damping];
     put_header(out, 0, 16, 1);
@@ -420,7 +421,7 @@ fn put_settings(out: &mut [u8], t: SettingBits)
 
 fn put_poses(out: &mut [u8], at: usize, poses: &[u64], n: usize)
     requires { ⌜ (at + 100 * n ≤ length (now out)) × (12 * n ≤ length (now poses)) ⌝ }
-    ensures { λ _. ⌜ now (out .exit) ≡ pasted at (strung (poseRecord (now (poses .entry))) n) (now (out .entry)) ⌝ }
+    ensures { λ _. ⌜ became out ≡ pasted at (strung (poseRecord (was poses)) n) (was out) ⌝ }
 {
     let mut i = 0usize;
     while i < n {
@@ -432,7 +433,7 @@ fn put_poses(out: &mut [u8], at: usize, poses: &[u64], n: usize)
 
 fn put_edges(out: &mut [u8], at: usize, ends: &[u32], edges: &[u32], n: usize)
     requires { ⌜ (at + 44 * n ≤ length (now out)) × (2 * n ≤ length (now ends)) × (8 * n ≤ length (now edges)) ⌝ }
-    ensures { λ _. ⌜ now (out .exit) ≡ pasted at (strung (edgeRecord (now (ends .entry)) (now (edges .entry))) n) (now (out .entry)) ⌝ }
+    ensures { λ _. ⌜ became out ≡ pasted at (strung (edgeRecord (was ends) (was edges)) n) (was out) ⌝ }
 {
     let mut i = 0usize;
     while i < n {
@@ -445,7 +446,7 @@ fn put_edges(out: &mut [u8], at: usize, ends: &[u32], edges: &[u32], n: usize)
 
 fn put_fixed(out: &mut [u8], at: usize, fixed: &[u32])
     requires { ⌜ at + 8 * length (now fixed) ≤ length (now out) ⌝ }
-    ensures { λ _. ⌜ now (out .exit) ≡ pasted at (strung (fixedRecord (now (fixed .entry))) (length (now (fixed .entry)))) (now (out .entry)) ⌝ }
+    ensures { λ _. ⌜ became out ≡ pasted at (strung (fixedRecord (was fixed)) (length (was fixed))) (was out) ⌝ }
 {
     let mut i = 0usize;
     while i < fixed.len() {
@@ -484,7 +485,7 @@ fn put_job(
     out: &mut [u8],
 ) -> usize
     requires { ⌜ (had ≡ tallyOf (jobOf t (space (now poses) (now ends) (now edges) (now fixed)))) × (8 * had .edges ≤ length (now edges)) × (sizeOf had ≤ length (now out)) ⌝ }
-    ensures { λ r. ⌜ (r ≡ sizeOf had) × (now (out .exit) ≡ pasted 0 (encoded (jobOf t (space (now (poses .entry)) (now (ends .entry)) (now (edges .entry)) (now (fixed .entry))))) (now (out .entry))) ⌝ }
+    ensures { λ r. ⌜ (r ≡ sizeOf had) × (became out ≡ pasted 0 (encoded (jobOf t (space (was poses) (was ends) (was edges) (was fixed)))) (was out)) ⌝ }
 {
     let p = had.poses;
     let e = had.edges;
@@ -514,7 +515,7 @@ pub fn write_job(
     fixed: &[u32],
     out: &mut [u8],
 ) -> Written
-    ensures { λ r. ⌜ (r, now (out .exit)) ≡ writtenInto (jobOf t (space (now (poses .entry)) (now (ends .entry)) (now (edges .entry)) (now (fixed .entry)))) (now (out .entry)) ⌝ }
+    ensures { λ r. ⌜ (r, became out) ≡ writtenInto (jobOf t (space (was poses) (was ends) (was edges) (was fixed))) (was out) ⌝ }
 {
     if (poses.len() % 12 != 0) | ((ends.len() % 2 != 0) | (edges.len() != 4 * ends.len())) {
         return refused(2);

@@ -5,7 +5,7 @@ ghost use Prim.Native.Nat.{_*_, _≤_};
 ghost use mathlib.Core.List.{_++_};
 ghost use lib.Ieee.{binary32, binary64, ofBits, toBits};
 ghost use lib.ListN.{length, take, replicate};
-ghost use Rattle.numbers.specs.Notation.{num};
+ghost use Rattle.numbers.specs.Notation.{num, was, became};
 ghost use Rattle.io.specs.Counts.{Counts};
 ghost use Rattle.job.specs.Format.{space, jobOf, sizeOf, readAtMost};
 ghost use Rattle.printable.specs.declared.Printable.the-variants as printable;
@@ -88,7 +88,7 @@ fn blank_singles() -> [f32; 8192]
 // The floats of at most so many patterns, from the start on.
 fn doubles(from: &[u64]) -> [f64; 3072]
     requires { ⌜ length (now from) ≤ 3072 ⌝ }
-    ensures { λ r. ⌜ (length r ≡ 3072) × (take (length (now (from .entry))) r ≡ floats binary64 (now (from .entry))) ⌝ }
+    ensures { λ r. ⌜ (length r ≡ 3072) × (take (length (was from)) r ≡ floats binary64 (was from)) ⌝ }
 {
     let mut to = blank_doubles();
     let mut i = 0usize;
@@ -101,7 +101,7 @@ fn doubles(from: &[u64]) -> [f64; 3072]
 
 fn singles(from: &[u32]) -> [f32; 8192]
     requires { ⌜ length (now from) ≤ 8192 ⌝ }
-    ensures { λ r. ⌜ (length r ≡ 8192) × (take (length (now (from .entry))) r ≡ floats binary32 (now (from .entry))) ⌝ }
+    ensures { λ r. ⌜ (length r ≡ 8192) × (take (length (was from)) r ≡ floats binary32 (was from)) ⌝ }
 {
     let mut to = blank_singles();
     let mut i = 0usize;
@@ -114,7 +114,7 @@ fn singles(from: &[u32]) -> [f32; 8192]
 
 fn bits(from: &[f64], to: &mut [u64])
     requires { ⌜ length (now to) ≡ length (now from) ⌝ }
-    ensures { λ _. ⌜ now (to .exit) ≡ patterns binary64 (now (from .entry)) ⌝ }
+    ensures { λ _. ⌜ became to ≡ patterns binary64 (was from) ⌝ }
 {
     let mut i = 0usize;
     while i < to.len() {
@@ -145,8 +145,8 @@ fn run_over(
     fixed: &[u32],
     out: &mut [f64],
 ) -> Answer
-    ensures { λ r. ⌜ r ≡ ranOver t (now (poses .entry)) (now (ends .entry)) (now (edges .entry)) (now (fixed .entry)) (now (out .entry)) .answer ⌝ }
-    ensures { λ _. ⌜ now (out .exit) ≡ ranOver t (now (poses .entry)) (now (ends .entry)) (now (edges .entry)) (now (fixed .entry)) (now (out .entry)) .out ⌝ }
+    ensures { λ r. ⌜ r ≡ ranOver t (was poses) (was ends) (was edges) (was fixed) (was out) .answer ⌝ }
+    ensures { λ _. ⌜ became out ≡ ranOver t (was poses) (was ends) (was edges) (was fixed) (was out) .out ⌝ }
 {
     let mut work32 = [0.0f32; 148608];
     let mut work64 = [0.0f64; 6144];
@@ -170,7 +170,7 @@ fn printable_of(
     new: &[f64],
     j: Joined,
 ) -> Printable
-    ensures { λ r. ⌜ r ≡ printableOf limit (now (poses .entry)) (now (ends .entry)) (now (edges .entry)) (now (new .entry)) j ⌝ }
+    ensures { λ r. ⌜ r ≡ printableOf limit (was poses) (was ends) (was edges) (was new) j ⌝ }
 {
     let m = printable::measures_at(poses, new, ends, edges);
     let cosine = printable::min_gravity_cosine(Manifold::Se3, poses, new);
@@ -186,8 +186,8 @@ fn judge_over(
     fixed: &[u32],
     out: &mut [f64],
 ) -> Judged
-    ensures { λ r. ⌜ r ≡ judgedOver t (now (poses .entry)) (now (ends .entry)) (now (edges .entry)) (now (fixed .entry)) (now (out .entry)) ⌝ }
-    ensures { λ _. ⌜ now (out .exit) ≡ ranOver t (now (poses .entry)) (now (ends .entry)) (now (edges .entry)) (now (fixed .entry)) (now (out .entry)) .out ⌝ }
+    ensures { λ r. ⌜ r ≡ judgedOver t (was poses) (was ends) (was edges) (was fixed) (was out) ⌝ }
+    ensures { λ _. ⌜ became out ≡ ranOver t (was poses) (was ends) (was edges) (was fixed) (was out) .out ⌝ }
 {
     let a = run_over(t, poses, ends, edges, fixed, out);
     match a {
@@ -206,8 +206,8 @@ fn run_job(
     new: &mut [u64],
 ) -> Judged
     requires { ⌜ (length (now poses) ≤ 3072) × (length (now edges) ≤ 8192) × (length (now new) ≡ length (now poses)) ⌝ }
-    ensures { λ r. ⌜ r ≡ judgedOf t (space (now (poses .entry)) (now (ends .entry)) (now (edges .entry)) (now (fixed .entry))) ⌝ }
-    ensures { λ _. ⌜ now (new .exit) ≡ patterns binary64 (runOf t (space (now (poses .entry)) (now (ends .entry)) (now (edges .entry)) (now (fixed .entry))) .out) ⌝ }
+    ensures { λ r. ⌜ r ≡ judgedOf t (space (was poses) (was ends) (was edges) (was fixed)) ⌝ }
+    ensures { λ _. ⌜ became new ≡ patterns binary64 (runOf t (space (was poses) (was ends) (was edges) (was fixed)) .out) ⌝ }
 {
     let n = poses.len();
     let m = edges.len();
@@ -271,8 +271,8 @@ fn join_read(
     out: &mut [u8],
 ) -> Joining
     requires { ⌜ (length (now poses) ≤ 3072) × (length (now edges) ≤ 8192) ⌝ }
-    ensures { λ r. ⌜ (r .report, r .bytes, now (out .exit)) ≡
-        joinedWith had (jobOf t (space (now (poses .entry)) (now (ends .entry)) (now (edges .entry)) (now (fixed .entry)))) (now (out .entry)) ⌝ }
+    ensures { λ r. ⌜ (r .report, r .bytes, became out) ≡
+        joinedWith had (jobOf t (space (was poses) (was ends) (was edges) (was fixed))) (was out) ⌝ }
 {
     let n = poses.len();
     let mut new = blank_poses();
@@ -301,8 +301,8 @@ fn join_front(
 ) -> Joining
     requires { ⌜ (had .poses ≤ 256) × (had .edges ≤ 1024) × (had .fixed ≤ 256) ⌝ }
     requires { ⌜ (length (now poses) ≡ 3072) × (length (now ends) ≡ 2048) × (length (now edges) ≡ 8192) × (length (now fixed) ≡ 256) ⌝ }
-    ensures { λ r. ⌜ (r .report, r .bytes, now (out .exit)) ≡ joinedWith had (jobOf t (space (take (12 * had .poses) (now (poses .entry)))
-        (take (2 * had .edges) (now (ends .entry))) (take (8 * had .edges) (now (edges .entry))) (take (had .fixed) (now (fixed .entry))))) (now (out .entry)) ⌝ }
+    ensures { λ r. ⌜ (r .report, r .bytes, became out) ≡ joinedWith had (jobOf t (space (take (12 * had .poses) (was poses))
+        (take (2 * had .edges) (was ends)) (take (8 * had .edges) (was edges)) (take (had .fixed) (was fixed)))) (was out) ⌝ }
 {
     let p = 12 * had.poses;
     let e = 2 * had.edges;
@@ -322,7 +322,7 @@ fn join_front(
 // A job of at most so many poses, edges and fixed entries.
 fn join_within(room: Tally, bytes: &[u8], out: &mut [u8]) -> Joining
     requires { ⌜ (room .poses ≤ 256) × (room .edges ≤ 1024) × (room .fixed ≤ 256) ⌝ }
-    ensures { λ r. ⌜ (r .report, r .bytes, now (out .exit)) ≡ joinedInto room (now (bytes .entry)) (now (out .entry)) ⌝ }
+    ensures { λ r. ⌜ (r .report, r .bytes, became out) ≡ joinedInto room (was bytes) (was out) ⌝ }
 {
     let mut poses = blank_poses();
     let mut ends = blank_ends();
@@ -346,8 +346,8 @@ fn join_within(room: Tally, bytes: &[u8], out: &mut [u8]) -> Joining
 
 // At document 01's limits: the joined job goes to the start of out.
 pub fn join(bytes: &[u8], out: &mut [u8]) -> Joining
-    ensures { λ r. ⌜ (r .report, r .bytes, now (out .exit)) ≡ joinedInto fullRoom (now (bytes .entry)) (now (out .entry)) ⌝ }
-    ensures { λ r. ⌜ Counts (r .bytes) (now (out .exit)) ⌝ }
+    ensures { λ r. ⌜ (r .report, r .bytes, became out) ≡ joinedInto fullRoom (was bytes) (was out) ⌝ }
+    ensures { λ r. ⌜ Counts (r .bytes) (became out) ⌝ }
 {
     let room = Tally {
         poses: 256,
@@ -359,7 +359,7 @@ pub fn join(bytes: &[u8], out: &mut [u8]) -> Joining
 
 // At the wish's own: 16 poses, 64 edges, 16 fixed entries, and nothing but a line is wanted. No job within these limits takes more than 4,568 bytes.
 pub fn join_small(bytes: &[u8]) -> Report
-    ensures { λ r. ⌜ r ≡ reportOf smallRoom (now (bytes .entry)) ⌝ }
+    ensures { λ r. ⌜ r ≡ reportOf smallRoom (was bytes) ⌝ }
 {
     let room = Tally {
         poses: 16,
@@ -417,7 +417,7 @@ pub fn said(r: Report) -> Line
 
 // A text and two numbers.
 fn with_two(text: &[u8], before: f64, after: f64) -> Line
-    ensures { λ l. ⌜ l ≡ lineOf (now (text .entry) ++ floatText before ++ ascii ", after " ++ floatText after ++ ascii ")\n") ⌝ }
+    ensures { λ l. ⌜ l ≡ lineOf (was text ++ floatText before ++ ascii ", after " ++ floatText after ++ ascii ")\n") ⌝ }
 {
     let l = line::with_float(line::with_text(line::empty(), text), before);
     let l = line::with_float(line::with_text(l, b", after "), after);

@@ -1,6 +1,7 @@
 // What programs say, as lines by value: texts, numbers in decimal, floats with six digits, and the lines of a job's run (document 02, Wishes 1 and 2).
 ghost use mathlib.Core.Path.{_≡_};
 ghost use Prim.Native.Nat.{_+_, _%_, _<_, _≤_};
+ghost use Rattle.numbers.specs.Notation.{was};
 ghost use Rattle.line.specs.FloatText.{raised, lowered, repeated, scaledOf, wholePart, roundedSix, digitsText};
 ghost use Rattle.line.specs.FloatText.{pointed, plainText, powerText, sixText, sizeText, floatText};
 ghost use Rattle.line.specs.Text.{decimal, ranText, refusedText, unreadableText, unwrittenText, yesNo, empty as Text·empty, withByte, withText, lineOf};
@@ -37,7 +38,7 @@ fn with_byte(l: Line, b: u8) -> Line
 
 // The text goes behind what the line has; what does not fit is left out.
 pub fn with_text(l: Line, text: &[u8]) -> Line
-    ensures { λ r. ⌜ r ≡ withText l (now (text .entry)) ⌝ }
+    ensures { λ r. ⌜ r ≡ withText l (was text) ⌝ }
 {
     let mut r = l;
     let mut i = 0usize;

@@ -16,14 +16,5 @@ pub mod Finite
 pub mod Write
 pub mod Word
 pub mod Read
-pub mod Narrowing
-pub mod Widening
-pub mod Rooting
-pub mod Lengthening
-pub mod Cases
-pub mod Believe
-pub mod RootServes
-pub mod Bounded
-pub mod Own
 pub mod Strung
 pub mod Steps

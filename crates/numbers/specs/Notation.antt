@@ -4,6 +4,8 @@ use Prim.Native.Nat.{ℕ}
 use mathlib.Core.Bool.{Bool, true, false}
 use mathlib.Core.List.{List}
 use lib.ListN.{getD}
+use denote.Ref.{RefT, now}
+use denote.Triple.Both.{Both}
 use lib.Ieee.{Float, binary32, binary64, add, sub, mul, div, round, nan}
 
 infixl 6 _⊕_ _⊖_ _⊞_ _⊟_
@@ -56,3 +58,11 @@ numberAt l j = getD l j nan
 unfoldable pub if-then : {A : Type 0} → Bool → A → A → A
 if-then true a b = a
 if-then false a b = b
+
+-- ---- in contracts: what stands behind a reference as the function is called, and as it returns
+
+abbrev pub was : {A E : Type 0} → Both (RefT A) E → A
+was x = now (x .entry)
+
+abbrev pub became : {A E : Type 0} → Both E (RefT A) → A
+became x = now (x .exit)

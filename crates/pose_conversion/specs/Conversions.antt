@@ -4,7 +4,7 @@ use mathlib.Core.Bool.{Bool, _&&_}
 use lib.Ieee.{Float}
 use lib.Ieee.Scale.{finite}
 use Rattle.numbers.specs.Notation.{if-then}
-use Rattle.numbers.specs.Numbers.{narrowed}
+use Rattle.rounding.specs.Rounding.{narrowed}
 use Rattle.numbers.specs.declared.Failure.{Failure}
 use Rattle.numbers.specs.declared.Failure.the-variants.{Numerical}
 use Rattle.rotations.specs.Rotation.{vec, matrixOf, wide}

@@ -26,9 +26,9 @@ pub fn vec3_to_f32(v: Vec3) -> Vec3F32
     ensures { λ r. ⌜ r ≡ vecF32 v ⌝ }
 {
     Vec3F32 {
-        x: numbers::narrow(v.x),
-        y: numbers::narrow(v.y),
-        z: numbers::narrow(v.z),
+        x: rounding::narrow(v.x),
+        y: rounding::narrow(v.y),
+        z: rounding::narrow(v.z),
     }
 }
 

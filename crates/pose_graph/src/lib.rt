@@ -3,6 +3,7 @@
 ghost use mathlib.Core.Path.{_≡_};
 ghost use mathlib.Core.List.{[], _∷_};
 ghost use lib.ListN.{length};
+ghost use Rattle.numbers.specs.Notation.{was, became};
 ghost use Rattle.checks.specs.Input.{lent, lentGraph};
 ghost use Rattle.scans.specs.Scans.{scan};
 ghost use Rattle.pose_graph.specs.Closing.{resultFor, roomFor, closedRun, loopsClosed};
@@ -43,8 +44,8 @@ fn result_of(
     out: &[f64],
     run: Joined,
 ) -> PgoResult
-    ensures { λ r. ⌜ r ≡ resultFor manifold (lentGraph (now (poses .entry)) (now (ends .entry)) (now (edges .entry)) [])
-        (now (poses .entry)) (now (out .entry)) run ⌝ }
+    ensures { λ r. ⌜ r ≡ resultFor manifold (lentGraph (was poses) (was ends) (was edges) [])
+        (was poses) (was out) run ⌝ }
 {
     let measures = printable::measures_at(poses, out, ends, edges);
     let preserved = printable::gravity_preserved(manifold, poses, out);
@@ -67,10 +68,10 @@ fn run_and_judge(
     out: &mut [f64],
 ) -> Closed
     requires { ⌜ length (now original) ≡ length (now poses) ⌝ }
-    ensures { λ r. ⌜ record { answer = r; work32 = now (work32 .exit); work64 = now (work64 .exit); original = now (original .exit); out = now (out .exit) }
-        ≡ closedRun (lent (config .manifold) (now (poses .entry)) (now (ends .entry)) (now (edges .entry)) (0 ∷ []) (config .settings)
-        (roomFor (now (work32 .entry)) (now (work64 .entry)) (now (out .entry))))
-        (now (work32 .entry)) (now (work64 .entry)) (now (original .entry)) (now (out .entry)) ⌝ }
+    ensures { λ r. ⌜ record { answer = r; work32 = became work32; work64 = became work64; original = became original; out = became out }
+        ≡ closedRun (lent (config .manifold) (was poses) (was ends) (was edges) (0 ∷ []) (config .settings)
+        (roomFor (was work32) (was work64) (was out)))
+        (was work32) (was work64) (was original) (was out) ⌝ }
 {
     let manifold = config.manifold;
     let answer = sparse_pgo::sparse_pose_graph_optimize(
@@ -105,9 +106,9 @@ pub fn optimize_pose_graph(
     original: &mut [f64],
     out: &mut [f64],
 ) -> Closed
-    ensures { λ r. ⌜ record { answer = r; work32 = now (work32 .exit); work64 = now (work64 .exit); original = now (original .exit); out = now (out .exit) }
-        ≡ loopsClosed config (scan (now (ids .entry)) (now (poses .entry)) (now (loops .entry)) (now («loop_poses» .entry)) (config .«loop_edge_weight»))
-        (now (work32 .entry)) (now (work64 .entry)) (now (original .entry)) (now (out .entry)) ⌝ }
+    ensures { λ r. ⌜ record { answer = r; work32 = became work32; work64 = became work64; original = became original; out = became out }
+        ≡ loopsClosed config (scan (was ids) (was poses) (was loops) (was «loop_poses») (config .«loop_edge_weight»))
+        (was work32) (was work64) (was original) (was out) ⌝ }
 {
     let v = scans::validate_scan(ids, poses.len(), loops, loop_poses.len(), original.len());
     if let Verdict::Refused(r) = v {

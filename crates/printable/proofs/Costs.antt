@@ -11,10 +11,10 @@ use lib.Ieee.{Float, nan, binary32, binary64, fits}
 use lib.Ieee.Fits.{mul-fits}
 use lib.Ieee.Scale.{finite}
 use Rattle.numbers.specs.Notation.{_⊗_, if-then}
-use Rattle.numbers.specs.Numbers.{root64}
+use Rattle.roots.specs.Roots.{root64}
 use Rattle.numbers.specs.declared.Failure.the-variants.{Numerical}
 use Rattle.numbers.proofs.Tests.{and-first, and-second}
-use Rattle.numbers.proofs.Bounded.{AtMost, at-most-more, add-at-most, zero-at-most, sum-at-most, square, half-finite, norm-finite}
+use Rattle.roots.proofs.Bounded.{AtMost, at-most-more, add-at-most, zero-at-most, sum-at-most, square, half-finite, norm-finite}
 use Rattle.exp_log.specs.ExpLog.{logWide}
 use Rattle.rotations.specs.declared.Pose.{Pose}
 use Rattle.rotations.specs.declared.Transform.{Transform}

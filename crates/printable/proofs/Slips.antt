@@ -5,7 +5,8 @@ use mathlib.Core.Bool.{Bool, true, false}
 use mathlib.Core.List.{List, [], _∷_, _++_, map}
 use lib.Ieee.{Float, nan, inf, binary64, ofBits, add, sub, mul, div, neg, lt, le}
 use Rattle.numbers.specs.Notation.{num, ratio, if-then}
-use Rattle.numbers.specs.Numbers.{rounded, rooted}
+use Rattle.rounding.specs.Rounding.{rounded}
+use Rattle.roots.specs.Roots.{rooted}
 use Rattle.numbers.specs.Walks.{every, sumOf}
 use Rattle.rotations.specs.Rotation.{vec, dot, cross, plus, minus, times, matrixOf, turned, conjugate, quatProduct, wide, finished, product, inverse, over}
 use Rattle.rotations.specs.FromMatrix.{halvedBy, byRule, quatOfMatrix}

@@ -6,7 +6,7 @@ use mathlib.Core.List.{List}
 use lib.ListN.{getD}
 use lib.Ieee.{Float, binary64, nan, lt}
 use Rattle.numbers.specs.Notation.{_⊕_, _⊗_, num, ratio, if-then}
-use Rattle.numbers.specs.Numbers.{root64}
+use Rattle.roots.specs.Roots.{root64}
 use Rattle.numbers.specs.Walks.{every, sumOf}
 use Rattle.rotations.specs.Rotation.{dot, turned, unitVec}
 use Rattle.rotations.specs.declared.Vec3.{Vec3}

@@ -4,7 +4,7 @@ ghost use Prim.Native.Nat.{_/_, _<_, _^_};
 ghost use lib.Ieee.{lt};
 ghost use mathlib.Core.List.{[]};
 ghost use lib.ListN.{length};
-ghost use Rattle.numbers.specs.Notation.{if-then};
+ghost use Rattle.numbers.specs.Notation.{if-then, was};
 ghost use Rattle.graph.specs.Lent.{poseAt};
 ghost use Rattle.checks.specs.Input.{lentGraph};
 ghost use Rattle.printable.specs.Measures.{edgeResidual, squaresOf, withSquares, poseGraphCost, residualNorm, lastResidual, measuresOf};
@@ -40,7 +40,7 @@ pub enum Printable {
 
 fn weighted_edge_residual(poses: &[f64], ends: &[u32], edges: &[f32], k: usize) -> Residual
     requires { ⌜ k < 2 ^ 62 ⌝ }
-    ensures { λ r. ⌜ r ≡ edgeResidual (lentGraph [] (now (ends .entry)) (now (edges .entry)) []) (poseAt (now (poses .entry))) k ⌝ }
+    ensures { λ r. ⌜ r ≡ edgeResidual (lentGraph [] (was ends) (was edges) []) (poseAt (was poses)) k ⌝ }
 {
     let a = numbers::index_at(ends, k * 2);
     let b = numbers::index_at(ends, k * 2 + 1);
@@ -77,7 +77,7 @@ fn add_residual(r: Residual, sum: f64) -> f64
 
 // Half the sum over all edges that have a residual.
 pub fn pose_graph_cost(poses: &[f64], ends: &[u32], edges: &[f32]) -> f64
-    ensures { λ r. ⌜ r ≡ poseGraphCost (lentGraph [] (now (ends .entry)) (now (edges .entry)) []) (poseAt (now (poses .entry))) ⌝ }
+    ensures { λ r. ⌜ r ≡ poseGraphCost (lentGraph [] (was ends) (was edges) []) (poseAt (was poses)) ⌝ }
 {
     let n = ends.len() / 2;
     let mut sum = 0.0f64;
@@ -93,14 +93,14 @@ fn residual_norm(r: Residual) -> f64
     ensures { λ s. ⌜ s ≡ residualNorm r ⌝ }
 {
     match r {
-        Residual::Six(d) => numbers::sqrt64(residual_squared(d)),
+        Residual::Six(d) => roots::sqrt64(residual_squared(d)),
         Residual::Failed(_) => 0.0f64 / 0.0f64,
     }
 }
 
 // The last edge's; a NaN where it has no residual.
 pub fn last_residual_norm(poses: &[f64], ends: &[u32], edges: &[f32]) -> f64
-    ensures { λ r. ⌜ r ≡ lastResidual (lentGraph [] (now (ends .entry)) (now (edges .entry)) []) (poseAt (now (poses .entry))) ⌝ }
+    ensures { λ r. ⌜ r ≡ lastResidual (lentGraph [] (was ends) (was edges) []) (poseAt (was poses)) ⌝ }
 {
     let k = numbers::index_before(ends.len() / 2);
     residual_norm(weighted_edge_residual(poses, ends, edges, k))
@@ -108,7 +108,7 @@ pub fn last_residual_norm(poses: &[f64], ends: &[u32], edges: &[f32]) -> f64
 
 // Of the same edges at two lists of poses.
 pub fn measures_at(before: &[f64], after: &[f64], ends: &[u32], edges: &[f32]) -> Measures
-    ensures { λ r. ⌜ r ≡ measuresOf (lentGraph [] (now (ends .entry)) (now (edges .entry)) []) (poseAt (now (before .entry))) (poseAt (now (after .entry))) ⌝ }
+    ensures { λ r. ⌜ r ≡ measuresOf (lentGraph [] (was ends) (was edges) []) (poseAt (was before)) (poseAt (was after)) ⌝ }
 {
     Measures {
         initial_cost: pose_graph_cost(before, ends, edges),
@@ -136,7 +136,7 @@ fn smaller(cosine: f64, least: f64) -> f64
 
 // Gravity of unit length; as many poses as there are before.
 fn smallest_cosine(g: Vec3, before: &[f64], after: &[f64]) -> f64
-    ensures { λ r. ⌜ r ≡ smallestCosine g (length (now (before .entry)) / 12) (poseAt (now (before .entry))) (poseAt (now (after .entry))) ⌝ }
+    ensures { λ r. ⌜ r ≡ smallestCosine g (length (was before) / 12) (poseAt (was before)) (poseAt (was after)) ⌝ }
 {
     let n = before.len() / 12;
     let mut least = 1.0f64;
@@ -151,7 +151,7 @@ fn smallest_cosine(g: Vec3, before: &[f64], after: &[f64]) -> f64
 
 // The smallest cosine between gravity before and after in any camera's frame (of the Rust's largest angle); 1 without gravity.
 pub fn min_gravity_cosine(m: Manifold, before: &[f64], after: &[f64]) -> f64
-    ensures { λ r. ⌜ r ≡ cosineOf m (length (now (before .entry)) / 12) (poseAt (now (before .entry))) (poseAt (now (after .entry))) ⌝ }
+    ensures { λ r. ⌜ r ≡ cosineOf m (length (was before) / 12) (poseAt (was before)) (poseAt (was after)) ⌝ }
 {
     match m {
         Manifold::Se3 => 1.0,
@@ -160,7 +160,7 @@ pub fn min_gravity_cosine(m: Manifold, before: &[f64], after: &[f64]) -> f64
 }
 
 pub fn gravity_preserved(m: Manifold, before: &[f64], after: &[f64]) -> bool
-    ensures { λ r. ⌜ r ≡ gravityKept m (length (now (before .entry)) / 12) (poseAt (now (before .entry))) (poseAt (now (after .entry))) ⌝ }
+    ensures { λ r. ⌜ r ≡ gravityKept m (length (was before) / 12) (poseAt (was before)) (poseAt (was after)) ⌝ }
 {
     !(min_gravity_cosine(m, before, after) < LEAST_COSINE)
 }

@@ -6,7 +6,7 @@ use lib.Dec.{eqb}
 use lib.Ieee.{Float, nan, inf, fin, Format, binary32, binary64, unlike, add, sub, mul, neg}
 use lib.Ieee.Scale.{finite}
 use Rattle.numbers.specs.Notation.{_⊕_, _⊖_, _⊗_, _⊞_, _⊟_, num, if-then}
-use Rattle.numbers.specs.Numbers.{rounded, narrowed}
+use Rattle.rounding.specs.Rounding.{rounded, narrowed}
 use Rattle.numbers.proofs.Tests.{and-first, and-second}
 use Rattle.rotations.specs.Rotation.{matrixOf, wide}
 use Rattle.rotations.specs.FromMatrix.{byRule, halvedBy, quatOfMatrix}

@@ -27,7 +27,7 @@ use Rattle.graph.specs.declared.Manifold.the-variants.{Se3}
 use Rattle.retraction.specs.Retraction.{retractOf, retractSe3}
 use Rattle.probes.specs.Probes.{nudge, stepSize, probeOf, probesOf}
 use Rattle.probes.specs.Stances.{stepQuat, stepShift, stepBy, settledBy, swungBy, joined, stanceSe3, probeSe3, probeBy}
-use Rattle.numbers.proofs.Own.{rounded-twice}
+use Rattle.rounding.proofs.Own.{rounded-twice}
 use Rattle.probes.proofs.PoseAgain.{pose-again}
 
 -- ---- numbers narrowed once stay what they are

@@ -9,7 +9,7 @@ use lib.Ieee.{Float, nan, inf, fin, add, sub, mul, div, neg, lt}
 use lib.Ieee.Scale.{finite}
 use lib.Ieee.Fits.{and-l, and-r}
 use Rattle.numbers.specs.Notation.{ratio, ratio32, if-then, numberAt}
-use Rattle.numbers.specs.Numbers.{rounded}
+use Rattle.rounding.specs.Rounding.{rounded}
 use Rattle.numbers.specs.Walks.{every}
 use Rattle.numbers.proofs.Tests.{and-first}
 use Rattle.rotations.specs.Rotation.{vec, dot, cross, plus, times, finished, over}

@@ -15,11 +15,11 @@ use lib.Ieee.Fits.{up-pos, down-pos}
 use lib.Ieee.Positive.{positive}
 use lib.Ieee.Scale.{finite, round-same}
 use Rattle.numbers.specs.Notation.{_⊟_, _⊠_, _⧄_, num}
-use Rattle.numbers.specs.Numbers.{rounded}
+use Rattle.rounding.specs.Rounding.{rounded}
 use Rattle.profile.specs.Starts.{plusZero, minusZero}
 use Rattle.numbers.proofs.Tests.{and-first}
-use Rattle.numbers.proofs.Own.{rounded-own}
-use Rattle.numbers.proofs.RootServes.{zero-is, above-zero}
+use Rattle.rounding.proofs.Own.{rounded-own}
+use Rattle.roots.proofs.RootServes.{zero-is, above-zero}
 
 abbrev pub Fits : Float → Type 0
 Fits x = T (fits binary32 x)

@@ -4,6 +4,7 @@ ghost use mathlib.Core.Path.{_≡_};
 ghost use Prim.Native.Nat.{ℕ, _*_, _≤_};
 ghost use lib.Dec.{leb};
 ghost use lib.ListN.{length};
+ghost use Rattle.numbers.specs.Notation.{was};
 ghost use Rattle.profile.specs.Layout.{need};
 ghost use Rattle.profile.specs.Starts.{plusZero, minusZero, orderFor, startOf, startsOf, firstOf, startAt};
 
@@ -51,7 +52,7 @@ fn plus_zero(v: f32) -> bool
 // The first j with H(i,j) not +0, and i where there is none.
 fn first_in(w: &[f32], n: usize, i: usize) -> usize
     requires { ⌜ n * n ≤ length (now w) ⌝ }
-    ensures { λ r. ⌜ r ≡ startOf (now (w .entry)) n i ⌝ }
+    ensures { λ r. ⌜ r ≡ startOf (was w) n i ⌝ }
 {
     if n <= i {
         return 0usize;
@@ -68,7 +69,7 @@ fn first_in(w: &[f32], n: usize, i: usize) -> usize
 
 // Where each row starts. A run has at most 384 unknowns, 6 for each of 64 free poses; rows past them start at 0.
 pub fn starts(w: &[f32], n: usize) -> [usize; 384]
-    ensures { λ r. ⌜ r ≡ startsOf (now (w .entry)) n ⌝ }
+    ensures { λ r. ⌜ r ≡ startsOf (was w) n ⌝ }
 {
     let m = order_for(w.len(), n);
     let mut f = [0usize; 384];
@@ -81,7 +82,7 @@ pub fn starts(w: &[f32], n: usize) -> [usize; 384]
 }
 
 pub fn first_of(f: &[usize; 384], i: usize) -> usize
-    ensures { λ r. ⌜ r ≡ firstOf (now (f .entry)) i ⌝ }
+    ensures { λ r. ⌜ r ≡ firstOf (was f) i ⌝ }
 {
     if i < 384usize { f[i] } else { 0usize }
 }

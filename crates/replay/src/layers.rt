@@ -103,21 +103,21 @@ fn same_restored(r: Restored, b: &[u8], at: usize) -> bool
 
 pub fn same_narrow(b: &[u8]) -> bool {
     bytes::same32(
-        numbers::narrow(bytes::f64_at(b, 0, 0)),
+        rounding::narrow(bytes::f64_at(b, 0, 0)),
         bytes::f32_at(b, 8, 0),
     )
 }
 
 pub fn same_sqrt32(b: &[u8]) -> bool {
     bytes::same32(
-        numbers::sqrt32(bytes::f32_at(b, 0, 0)),
+        roots::sqrt32(bytes::f32_at(b, 0, 0)),
         bytes::f32_at(b, 4, 0),
     )
 }
 
 pub fn same_sqrt64(b: &[u8]) -> bool {
     bytes::same64(
-        numbers::sqrt64(bytes::f64_at(b, 0, 0)),
+        roots::sqrt64(bytes::f64_at(b, 0, 0)),
         bytes::f64_at(b, 8, 0),
     )
 }

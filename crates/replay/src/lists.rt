@@ -79,7 +79,7 @@ fn decided(b: &[u8], events: &[u32], prices: &[f32]) -> Told {
         Verdict::Refused(r) => turned(runs::refused(r)),
         Verdict::Fine => tell(
             cost,
-            decisions::drive(limit, tolerance, cost, damping, events, prices),
+            events::drive(limit, tolerance, cost, damping, events, prices),
         ),
     }
 }

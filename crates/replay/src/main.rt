@@ -10,6 +10,7 @@ mod systems;
 
 ghost use Prim.Native.Nat.{_≤_};
 ghost use lib.ListN.{length};
+ghost use Rattle.numbers.specs.Notation.{was};
 use say::Tally;
 
 // `PGOV` and version 1.
@@ -142,7 +143,7 @@ struct Record {
 
 // The record at `at`, where all of it is there.
 fn record_at(file: &[u8], at: usize) -> Record
-    ensures { λ r. ⌜ (r .from ≤ r .to) × (r .to ≤ length (now (file .entry))) ⌝ }
+    ensures { λ r. ⌜ (r .from ≤ r .to) × (r .to ≤ length (was file)) ⌝ }
 {
     let kind = bytes::u32_at(file, at, 0);
     let size = bytes::count_at(file, at, 1, 16384);

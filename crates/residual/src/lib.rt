@@ -74,9 +74,9 @@ fn weigh_vec(w: f32, v: Vec3) -> Vec3F32
     ensures { λ r. ⌜ r ≡ weightedVec w v ⌝ }
 {
     Vec3F32 {
-        x: w * numbers::narrow(v.x),
-        y: w * numbers::narrow(v.y),
-        z: w * numbers::narrow(v.z),
+        x: w * rounding::narrow(v.x),
+        y: w * rounding::narrow(v.y),
+        z: w * rounding::narrow(v.z),
     }
 }
 

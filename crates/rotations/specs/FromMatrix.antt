@@ -1,7 +1,7 @@
 -- Quaternion from matrix, in f32. m_cr is column c, row r: m01 is m .x .y.
 use lib.Ieee.{Float, le}
 use Rattle.numbers.specs.Notation.{_⊞_, _⊟_, _⊠_, _⧄_, num, ratio, if-then}
-use Rattle.numbers.specs.Numbers.{root32}
+use Rattle.roots.specs.Roots.{root32}
 use Rattle.rotations.specs.declared.QuatF32.{QuatF32}
 use Rattle.rotations.specs.declared.Mat3F32.{Mat3F32}
 

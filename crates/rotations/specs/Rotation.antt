@@ -2,7 +2,8 @@
 -- a product and an inverse finish a transform, narrowed once. Sums go (x + y) + z.
 use lib.Ieee.{Float, neg}
 use Rattle.numbers.specs.Notation.{_⊕_, _⊖_, _⊗_, _⊘_, num}
-use Rattle.numbers.specs.Numbers.{narrowed, root64}
+use Rattle.rounding.specs.Rounding.{narrowed}
+use Rattle.roots.specs.Roots.{root64}
 use Rattle.rotations.specs.declared.Vec3.{Vec3}
 use Rattle.rotations.specs.declared.Quat.{Quat}
 use Rattle.rotations.specs.declared.Mat3.{Mat3}

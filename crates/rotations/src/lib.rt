@@ -123,7 +123,7 @@ pub fn vec_over(a: Vec3, k: f64) -> Vec3
 pub fn length_of(a: Vec3) -> f64
     ensures { λ r. ⌜ r ≡ lengthOf a ⌝ }
 {
-    numbers::sqrt64(dot_of(a, a))
+    roots::sqrt64(dot_of(a, a))
 }
 
 // Divided by its length.
@@ -250,15 +250,15 @@ pub fn finish(a: Rigid) -> Transform
 {
     Transform {
         q: QuatF32 {
-            x: numbers::narrow(a.q.x),
-            y: numbers::narrow(a.q.y),
-            z: numbers::narrow(a.q.z),
-            w: numbers::narrow(a.q.w),
+            x: rounding::narrow(a.q.x),
+            y: rounding::narrow(a.q.y),
+            z: rounding::narrow(a.q.z),
+            w: rounding::narrow(a.q.w),
         },
         t: Vec3F32 {
-            x: numbers::narrow(a.t.x),
-            y: numbers::narrow(a.t.y),
-            z: numbers::narrow(a.t.z),
+            x: rounding::narrow(a.t.x),
+            y: rounding::narrow(a.t.y),
+            z: rounding::narrow(a.t.z),
         },
     }
 }
@@ -268,9 +268,9 @@ pub fn rounded_vec(v: Vec3) -> Vec3
     ensures { λ r. ⌜ r ≡ roundedVec v ⌝ }
 {
     Vec3 {
-        x: numbers::round32(v.x),
-        y: numbers::round32(v.y),
-        z: numbers::round32(v.z),
+        x: rounding::round32(v.x),
+        y: rounding::round32(v.y),
+        z: rounding::round32(v.z),
     }
 }
 
@@ -278,10 +278,10 @@ pub fn rounded_quat(q: Quat) -> Quat
     ensures { λ r. ⌜ r ≡ roundedQuat q ⌝ }
 {
     Quat {
-        x: numbers::round32(q.x),
-        y: numbers::round32(q.y),
-        z: numbers::round32(q.z),
-        w: numbers::round32(q.w),
+        x: rounding::round32(q.x),
+        y: rounding::round32(q.y),
+        z: rounding::round32(q.z),
+        w: rounding::round32(q.w),
     }
 }
 
@@ -315,7 +315,7 @@ pub fn inverse_of(a: Transform) -> Transform
 fn halved_by(p: f32, x: f32, y: f32, z: f32, w: f32) -> QuatF32
     ensures { λ r. ⌜ r ≡ halvedBy p x y z w ⌝ }
 {
-    let k = 0.5 / numbers::sqrt32(p);
+    let k = 0.5 / roots::sqrt32(p);
     QuatF32 {
         x: x * k,
         y: y * k,

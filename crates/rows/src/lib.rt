@@ -4,6 +4,7 @@ ghost use mathlib.Core.Path.{_≡_};
 ghost use mathlib.Core.Bool.{not, _||_};
 ghost use lib.Dec.{eqb, ltb, leb};
 ghost use lib.Ieee.Scale.{finite};
+ghost use Rattle.numbers.specs.Notation.{was};
 ghost use Rattle.numbers.specs.Refusals.{orElse, ask, says, verdict};
 ghost use Rattle.pose_conversion.specs.Conversions.{finiteTransform};
 ghost use Rattle.rows.specs.Tests.{badGravity, unfit, tooMany, shortWork, badTolerance, badDamping, fixedFaults, settingRows};
@@ -102,7 +103,7 @@ pub fn edge_10(v: Verdict, e: Edge, k: usize) -> Verdict
 }
 
 pub fn fixed_11(n: usize, fixed: &[u32], k: usize) -> Verdict
-    ensures { λ r. ⌜ r ≡ says (fixedFaults n (now (fixed .entry))) k ⌝ }
+    ensures { λ r. ⌜ r ≡ says (fixedFaults n (was fixed)) k ⌝ }
 {
     let x = numbers::index_at(fixed, k);
     numbers::asked(Verdict::Fine, n <= x, 11, k)

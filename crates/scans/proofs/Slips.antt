@@ -4,7 +4,7 @@ use mathlib.Core.Path.{_≡_, refl}
 use mathlib.Core.List.{List, [], _∷_, _++_}
 use lib.Ieee.{Float, add, mul, neg, round}
 use Rattle.numbers.specs.Notation.{num, ratio, if-then}
-use Rattle.numbers.specs.Numbers.{rounded}
+use Rattle.rounding.specs.Rounding.{rounded}
 use Rattle.numbers.specs.Refusals.{refusal, verdict}
 use Rattle.numbers.specs.declared.Verdict.the-variants.{Refused}
 use Rattle.rotations.specs.Rotation.{plus, minus, turned, transpose, matProduct}

@@ -3,7 +3,7 @@ ghost use mathlib.Core.Path.{_≡_};
 ghost use mathlib.Core.List.{[], _∷_, _++_};
 ghost use Prim.Native.Nat.{_+_, _-_, _*_, _/_, _<_, _≤_, _^_, min};
 ghost use lib.ListN.{length, take, drop, replicate};
-ghost use Rattle.numbers.specs.Notation.{num};
+ghost use Rattle.numbers.specs.Notation.{num, was, became};
 ghost use Rattle.numbers.specs.Refusals.{verdict, says, orElse, lowest};
 ghost use Rattle.numbers.specs.Walks.{strung};
 ghost use Rattle.scans.specs.Scans.{nodeOf, candidateNode, queryNode, nodeNumber, inversePose, poseProduct};
@@ -32,7 +32,7 @@ const MOST_BUILT: usize = 1025;
 
 // The last of equal ids.
 fn node_of(ids: &[u32], id: usize) -> Node
-    ensures { λ r. ⌜ r ≡ nodeOf (now (ids .entry)) id ⌝ }
+    ensures { λ r. ⌜ r ≡ nodeOf (was ids) id ⌝ }
 {
     let mut n = ids.len();
     while 0 < n {
@@ -47,14 +47,14 @@ fn node_of(ids: &[u32], id: usize) -> Node
 
 fn candidate_node(ids: &[u32], loops: &[u32], k: usize) -> Node
     requires { ⌜ k < 2 ^ 62 ⌝ }
-    ensures { λ r. ⌜ r ≡ candidateNode (now (ids .entry)) (now (loops .entry)) k ⌝ }
+    ensures { λ r. ⌜ r ≡ candidateNode (was ids) (was loops) k ⌝ }
 {
     node_of(ids, numbers::index_at(loops, k * 2))
 }
 
 fn query_node(ids: &[u32], loops: &[u32], k: usize) -> Node
     requires { ⌜ k < 2 ^ 62 ⌝ }
-    ensures { λ r. ⌜ r ≡ queryNode (now (ids .entry)) (now (loops .entry)) k ⌝ }
+    ensures { λ r. ⌜ r ≡ queryNode (was ids) (was loops) k ⌝ }
 {
     node_of(ids, numbers::index_at(loops, k * 2 + 1))
 }
@@ -87,7 +87,7 @@ fn unfit_scan(ids: usize, poses: usize, loops: usize, loop_poses: usize, origina
 
 fn loop_34(ids: &[u32], loops: &[u32], k: usize) -> Verdict
     requires { ⌜ k < 2 ^ 62 ⌝ }
-    ensures { λ r. ⌜ r ≡ says (loopFaults (now (ids .entry)) (now (loops .entry))) k ⌝ }
+    ensures { λ r. ⌜ r ≡ says (loopFaults (was ids) (was loops)) k ⌝ }
 {
     let candidate = candidate_node(ids, loops, k);
     let query = query_node(ids, loops, k);
@@ -101,7 +101,7 @@ fn loop_34(ids: &[u32], loops: &[u32], k: usize) -> Verdict
 
 // Row 34.
 fn loop_rows(v: Verdict, ids: &[u32], loops: &[u32]) -> Verdict
-    ensures { λ r. ⌜ r ≡ orElse v (lowest (loopFaults (now (ids .entry)) (now (loops .entry))) (length (now (loops .entry)) / 2)) ⌝ }
+    ensures { λ r. ⌜ r ≡ orElse v (lowest (loopFaults (was ids) (was loops)) (length (was loops) / 2)) ⌝ }
 {
     let Verdict::Fine = v else {
         return v;
@@ -126,7 +126,7 @@ pub fn validate_scan(
     loop_poses: usize,
     original: usize,
 ) -> Verdict
-    ensures { λ r. ⌜ r ≡ verdict (scanRows (now (ids .entry)) poses (now (loops .entry)) «loop_poses» original) ⌝ }
+    ensures { λ r. ⌜ r ≡ verdict (scanRows (was ids) poses (was loops) «loop_poses» original) ⌝ }
 {
     let unfit = unfit_scan(ids.len(), poses, loops.len(), loop_poses, original);
     loop_rows(numbers::asked(Verdict::Fine, unfit, 33, 0), ids, loops)
@@ -165,7 +165,7 @@ pub fn between(earlier: Pose, later: Pose) -> Pose
 
 fn chain_edge(poses: &[f64], k: usize) -> Edge
     requires { ⌜ k < 2 ^ 62 ⌝ }
-    ensures { λ r. ⌜ r ≡ chainEdge (now (poses .entry)) k ⌝ }
+    ensures { λ r. ⌜ r ≡ chainEdge (was poses) k ⌝ }
 {
     let p = between(graph::pose_at(poses, k), graph::pose_at(poses, k + 1));
     Edge {
@@ -175,7 +175,7 @@ fn chain_edge(poses: &[f64], k: usize) -> Edge
 }
 
 fn loop_edge(loop_poses: &[f64], weight: f32, k: usize) -> Edge
-    ensures { λ r. ⌜ r ≡ loopEdge (now («loop_poses» .entry)) weight k ⌝ }
+    ensures { λ r. ⌜ r ≡ loopEdge (was «loop_poses») weight k ⌝ }
 {
     Edge {
         measured: pose_conversion::pose_to_se3(graph::pose_at(loop_poses, k)),
@@ -186,7 +186,7 @@ fn loop_edge(loop_poses: &[f64], weight: f32, k: usize) -> Edge
 // Edge k, where the first `chain` are the chain's.
 fn scan_edge(chain: usize, poses: &[f64], loop_poses: &[f64], weight: f32, k: usize) -> Edge
     requires { ⌜ k < 2 ^ 62 ⌝ }
-    ensures { λ r. ⌜ r ≡ scanEdge chain (now (poses .entry)) (now («loop_poses» .entry)) weight k ⌝ }
+    ensures { λ r. ⌜ r ≡ scanEdge chain (was poses) (was «loop_poses») weight k ⌝ }
 {
     if k < chain {
         return chain_edge(poses, k);
@@ -205,7 +205,7 @@ fn edge_numbers(e: Edge) -> [f32; 8]
 // Edge k's eight numbers, in their place.
 fn put_edge(edges: &mut [f32], k: usize, e: Edge)
     requires { ⌜ k * 8 + 8 ≤ length (now edges) ⌝ }
-    ensures { λ _. ⌜ now (edges .exit) ≡ take (k * 8) (now (edges .entry)) ++ edgeNumbers e ++ drop (k * 8 + 8) (now (edges .entry)) ⌝ }
+    ensures { λ _. ⌜ became edges ≡ take (k * 8) (was edges) ++ edgeNumbers e ++ drop (k * 8 + 8) (was edges) ⌝ }
 {
     let ns = edge_numbers(e);
     let at = k * 8;
@@ -236,7 +236,7 @@ pub fn built_edges(
     weight: f32,
     n: usize,
 ) -> [f32; 8200]
-    ensures { λ r. ⌜ r ≡ strung (λ k. edgeNumbers (scanEdge (keyframes - 1) (now (poses .entry)) (now («loop_poses» .entry)) weight k)) (min n 1025)
+    ensures { λ r. ⌜ r ≡ strung (λ k. edgeNumbers (scanEdge (keyframes - 1) (was poses) (was «loop_poses») weight k)) (min n 1025)
         ++ replicate (8200 - min n 1025 * 8) (num 0) ⌝ }
 {
     let chain = numbers::index_before(keyframes);
@@ -267,7 +267,7 @@ fn node_number(n: Node) -> u32
 // The two ends of edge k. Where it is a loop's there are at most k + 1 keyframes.
 fn scan_ends(ids: &[u32], loops: &[u32], k: usize) -> EdgeEnds
     requires { ⌜ k < 1025 ⌝ }
-    ensures { λ r. ⌜ r .a ∷ r .b ∷ [] ≡ scanEnds (now (ids .entry)) (now (loops .entry)) k ⌝ }
+    ensures { λ r. ⌜ r .a ∷ r .b ∷ [] ≡ scanEnds (was ids) (was loops) k ⌝ }
 {
     let chain = numbers::index_before(ids.len());
     if k < chain {
@@ -286,7 +286,7 @@ fn scan_ends(ids: &[u32], loops: &[u32], k: usize) -> EdgeEnds
 
 // The ends of the first n edges; no more than are built.
 pub fn built_ends(ids: &[u32], loops: &[u32], n: usize) -> [u32; 2050]
-    ensures { λ r. ⌜ r ≡ strung (scanEnds (now (ids .entry)) (now (loops .entry))) (min n 1025) ++ replicate (2050 - min n 1025 * 2) 0 ⌝ }
+    ensures { λ r. ⌜ r ≡ strung (scanEnds (was ids) (was loops)) (min n 1025) ++ replicate (2050 - min n 1025 * 2) 0 ⌝ }
 {
     let most = numbers::smaller_of(n, MOST_BUILT);
     let mut ends = zero_ends();

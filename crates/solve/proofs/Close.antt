@@ -14,7 +14,7 @@ use Rattle.solve.specs.Rule.{nothing}
 use Rattle.profile.specs.Layout.{need}
 use Rattle.profile.specs.Starts.{startsOf}
 use Rattle.solve.specs.Work.{workAfter, stepIn, solvedAs, leaves}
-use Rattle.solve.specs.forms.Profile.{stepOf, cleared, solvedFrom}
+use Rattle.solve.specs.forms.Profile.{stepOf, clearedAt, solvedFrom}
 use Rattle.profile.proofs.Zeros.{Fits}
 use Rattle.solve.proofs.Places.{length-after, after-ext, length-cleared, cleared-in, cleared-spares}
 use Rattle.solve.proofs.Firsts.{Starts, starts-are}
@@ -40,23 +40,23 @@ module _ (w u v : List Float) (n : ℕ) (F : List ℕ) (d : Float) (r : Bool) (l
       (is ∙ ap (λ (z : List Float). solvedFrom z n F d) clean)
 
   -- y and z: with the step cleared where there is none, and then with L's places cleared
-  module _ (y z : List Float) (m : ℕ) (some : m ≡ cond r 0 n) (e : y ≡ cleared v (n * n + n + n) m) (h : z ≡ workAfter y n (stepOf y n)) where
+  module _ (y z : List Float) (m : ℕ) (some : m ≡ cond r 0 n) (e : y ≡ clearedAt v (n * n + n + n) m) (h : z ≡ workAfter y n (stepOf y n)) where
     pub solved : r ≡ true → Answered w n d Step z
-    unfolding solvedAs cleared
+    unfolding solvedAs clearedAt
     solved t =
         answered w n d Step z (left _ (le-ltb (length w) (need n) long) (taken _ (sym (follows .yes) ∙ t) refl))
         (h
-        ∙ ap (λ (x : List Float). workAfter x n (stepOf x n)) (e ∙ ap (cleared v (n * n + n + n)) (some ∙ ap (λ (b : Bool). cond b 0 n) t))
+        ∙ ap (λ (x : List Float). workAfter x n (stepOf x n)) (e ∙ ap (clearedAt v (n * n + n + n)) (some ∙ ap (λ (b : Bool). cond b 0 n) t))
         ∙ after-ext v w n (stepOf v n) (stepIn w n d) (follows .len) (follows .at) (follows .steps t))
 
     pub failed : r ≡ false → Answered w n d Failed z
     unfolding solvedAs
     failed t =
         let o = n * n + n + n in
-        let c = cleared v o n in
+        let c = clearedAt v o n in
         answered w n d Failed z (left _ (le-ltb (length w) (need n) long) (left _ (sym (follows .yes) ∙ t) refl))
         (h
-        ∙ ap (λ (x : List Float). workAfter x n (stepOf x n)) (e ∙ ap (cleared v o) (some ∙ ap (λ (b : Bool). cond b 0 n) t))
+        ∙ ap (λ (x : List Float). workAfter x n (stepOf x n)) (e ∙ ap (clearedAt v o) (some ∙ ap (λ (b : Bool). cond b 0 n) t))
         ∙ after-ext c w n (stepOf c n) nothing (length-cleared v o n ∙ follows .len)
         (λ q l k. cleared-spares n v q k ∙ follows .at q l k)
         (λ i l. cleared-in v o n (o + i) (omega (arith, follows .len)) (omega arith) (omega arith)))

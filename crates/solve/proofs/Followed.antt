@@ -6,7 +6,7 @@ use Prim.Native.Nat.{ℕ, zero, suc, _+_, _-_, _*_, _<_, _≤_}
 use native.Mathlib.Omega.{arith}
 use lib.ListN.{length, getD, set}
 use lib.Ieee.{Float, nan}
-use Rattle.numbers.specs.Numbers.{root32}
+use Rattle.roots.specs.Roots.{root32}
 use Rattle.solve.specs.Rule as R
 use Rattle.profile.specs.Layout.{need, hessianOf}
 use Rattle.solve.specs.Work.{gradientOf, kept, placeOf, after, workAfter, stepIn}

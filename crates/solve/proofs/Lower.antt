@@ -8,7 +8,7 @@ use borrow.Author.Tests.{eq-eqb, ne-eqb}
 use lib.Dec.{eqb}
 use lib.Ieee.{Float, neg}
 use Rattle.numbers.specs.Notation.{_⊞_, _⧄_}
-use Rattle.numbers.specs.Numbers.{root32}
+use Rattle.roots.specs.Roots.{root32}
 use Rattle.solve.specs.Rule as R
 use Rattle.solve.proofs.Sums.{less-ext}
 

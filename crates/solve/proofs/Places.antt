@@ -17,7 +17,7 @@ use Rattle.numbers.proofs.Choices.{taken, left}
 use Rattle.numbers.proofs.Tables.{length-table, getD-table, is-table}
 use Rattle.profile.specs.Layout.{need, hessianOf}
 use Rattle.solve.specs.Work.{gradientOf, Place, kept, scratch, stepAt, placeOf, after, workAfter}
-use Rattle.solve.specs.forms.Profile.{stepOf, cleared, clearedRows}
+use Rattle.solve.specs.forms.Profile.{stepOf, clearedAt, clearedRows}
 use Rattle.profile.proofs.Index.{before, le-or-lt, one-line}
 
 -- ---- the places
@@ -151,29 +151,29 @@ spares-set n w v p y f s =
 
 -- ---- clearing
 
-pub length-cleared : (w : List Float) (p m : ℕ) → length (cleared w p m) ≡ length w
-unfolding cleared
+pub length-cleared : (w : List Float) (p m : ℕ) → length (clearedAt w p m) ≡ length w
+unfolding clearedAt
 length-cleared w p zero = refl
-length-cleared w p (suc k) = length-set (cleared w p k) (p + k) (num 0) ∙ length-cleared w p k
+length-cleared w p (suc k) = length-set (clearedAt w p k) (p + k) (num 0) ∙ length-cleared w p k
 
-pub cleared-in : (w : List Float) (p m q : ℕ) → p + m ≤ length w → p ≤ q → q < p + m → getD (cleared w p m) q nan ≡ num 0
-unfolding cleared
+pub cleared-in : (w : List Float) (p m q : ℕ) → p + m ≤ length w → p ≤ q → q < p + m → getD (clearedAt w p m) q nan ≡ num 0
+unfolding clearedAt
 cleared-in w p zero q h a b = absurd (omega arith)
 cleared-in w p (suc k) q h a b =
     ⊎-elim
-    (λ (e : q ≡ p + k). rw e (getD-set-same (cleared w p k) (p + k) (num 0) nan (omega (arith, length-cleared w p k))))
-    (λ (e : q < p + k). getD-set-other (cleared w p k) (p + k) q (num 0) nan (λ z. omega arith) ∙ cleared-in w p k q (omega arith) a e)
+    (λ (e : q ≡ p + k). rw e (getD-set-same (clearedAt w p k) (p + k) (num 0) nan (omega (arith, length-cleared w p k))))
+    (λ (e : q < p + k). getD-set-other (clearedAt w p k) (p + k) q (num 0) nan (λ z. omega arith) ∙ cleared-in w p k q (omega arith) a e)
     (eq-or-lt-of-le (omega arith))
 
-pub cleared-out : (w : List Float) (p m q : ℕ) → (q < p) ⊎ (p + m ≤ q) → getD (cleared w p m) q nan ≡ getD w q nan
-unfolding cleared
+pub cleared-out : (w : List Float) (p m q : ℕ) → (q < p) ⊎ (p + m ≤ q) → getD (clearedAt w p m) q nan ≡ getD w q nan
+unfolding clearedAt
 cleared-out w p zero q h = refl
 cleared-out w p (suc k) q h =
-    getD-set-other (cleared w p k) (p + k) q (num 0) nan (λ z. ⊎-elim (λ (l : q < p). omega arith) (λ (l : p + suc k ≤ q). omega arith) h)
+    getD-set-other (clearedAt w p k) (p + k) q (num 0) nan (λ z. ⊎-elim (λ (l : q < p). omega arith) (λ (l : p + suc k ≤ q). omega arith) h)
     ∙ cleared-out w p k q (⊎-elim (λ (l : q < p). inl l) (λ (l : p + suc k ≤ q). inr (omega arith)) h)
 
 -- clearing the step keeps what is kept
-pub cleared-spares : (n : ℕ) (w : List Float) (q : ℕ) → placeOf n q ≡ kept → getD (cleared w (n * n + n + n) n) q nan ≡ getD w q nan
+pub cleared-spares : (n : ℕ) (w : List Float) (q : ℕ) → placeOf n q ≡ kept → getD (clearedAt w (n * n + n + n) n) q nan ≡ getD w q nan
 cleared-spares n w q k =
     let o = n * n + n + n in
     cleared-out w o n q
@@ -223,10 +223,10 @@ module _ (w : List Float) (n : ℕ) (long : need n ≤ length w) where
   bare = clearedRows w n n
 
   abbrev After : ℕ → Type 0
-  After q = getD (cleared bare (n * n) n) q nan ≡ after (stepOf w n) (getD w q nan) (placeOf n q)
+  After q = getD (clearedAt bare (n * n) n) q nan ≡ after (stepOf w n) (getD w q nan) (placeOf n q)
 
   -- by what stands there
-  settled : (q : ℕ) (x : Float) (p : Place) → placeOf n q ≡ p → getD (cleared bare (n * n) n) q nan ≡ x → x ≡ after (stepOf w n) (getD w q nan) p → After q
+  settled : (q : ℕ) (x : Float) (p : Place) → placeOf n q ≡ p → getD (clearedAt bare (n * n) n) q nan ≡ x → x ≡ after (stepOf w n) (getD w q nan) p → After q
   settled q x p e a b = a ∙ b ∙ ap (after (stepOf w n) (getD w q nan)) (sym e)
 
   matrix-place : (a b : ℕ) → a < n → b < n → After (a * n + b)
@@ -241,7 +241,7 @@ module _ (w : List Float) (n : ℕ) (long : need n ≤ length w) where
       (le-or-lt a b)
 
   -- past the roots nothing is cleared
-  past-place : (q : ℕ) → n * n + n ≤ q → getD (cleared bare (n * n) n) q nan ≡ getD w q nan
+  past-place : (q : ℕ) → n * n + n ≤ q → getD (clearedAt bare (n * n) n) q nan ≡ getD w q nan
   past-place q h = cleared-out bare (n * n) n q (inr h) ∙ rows-out w n within n q (λ a b l g e. omega (arith, before n a n l))
 
   any-place : (q : ℕ) → After q
@@ -269,5 +269,5 @@ module _ (w : List Float) (n : ℕ) (long : need n ≤ length w) where
       some zero q h = absurd (omega arith)
       some (suc n) q h = omega arith
 
-  pub cleared-lower : cleared (clearedRows w n n) (n * n) n ≡ workAfter w n (stepOf w n)
-  cleared-lower = is-after w n (stepOf w n) (cleared bare (n * n) n) (length-cleared bare (n * n) n ∙ length-rows w n within n) (λ q h. any-place q)
+  pub cleared-lower : clearedAt (clearedRows w n n) (n * n) n ≡ workAfter w n (stepOf w n)
+  cleared-lower = is-after w n (stepOf w n) (clearedAt bare (n * n) n) (length-cleared bare (n * n) n ∙ length-rows w n within n) (λ q h. any-place q)

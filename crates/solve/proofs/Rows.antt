@@ -16,7 +16,7 @@ use lib.Ieee.Bits.{ofBits-fits}
 use lib.Ieee.Fits.{add-fits, up-pos, down-pos}
 use lib.Ieee.Scale.{finite}
 use Rattle.numbers.specs.Notation.{_⊞_, _⊠_, _⧄_, num}
-use Rattle.numbers.specs.Numbers.{root32}
+use Rattle.roots.specs.Roots.{root32}
 use Rattle.solve.specs.Rule as R
 use Rattle.solve.specs.Rule.{less, serves}
 use Rattle.profile.specs.Layout.{need, hessianOf}
@@ -25,7 +25,7 @@ use Rattle.profile.specs.Starts.{firstOf, minusZero, startAt}
 use Rattle.solve.specs.forms.Profile.{cellOf, rootOf, entryFrom, nextEntry, rowFrom, pivotFrom, onward, wholeRow, rowsFrom}
 use Rattle.profile.proofs.Index.{before, one-line}
 use Rattle.numbers.proofs.Tests.{true-or-false}
-use Rattle.numbers.proofs.RootServes.{zero-is, above-zero, root-serves}
+use Rattle.roots.proofs.RootServes.{zero-is, above-zero, root-serves}
 use Rattle.profile.proofs.Zeros.{Fits, literal-zero, zero-less, plus-times, less-square, nothing-of, stuck-square}
 use Rattle.solve.proofs.Firsts.{Within}
 use Rattle.solve.proofs.Sums.{less-ext, less-idle, less-skip, less-stuck, less-fits, less-start, start-low}

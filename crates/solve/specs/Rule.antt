@@ -6,7 +6,7 @@ use lib.Dec.{eqb}
 use lib.Ieee.{Float, neg, lt}
 use lib.Ieee.Scale.{finite}
 use Rattle.numbers.specs.Notation.{_⊞_, _⊟_, _⊠_, _⧄_, num}
-use Rattle.numbers.specs.Numbers.{root32}
+use Rattle.roots.specs.Roots.{root32}
 use Rattle.numbers.specs.Walks.{every}
 
 -- v less a(k) b(k), k rising from 0 to m - 1

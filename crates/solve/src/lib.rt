@@ -6,7 +6,7 @@ ghost use Prim.Native.Nat.{ℕ, _+_, _-_, _*_, _<_, _≤_};
 ghost use lib.ListN.{length, getD};
 ghost use lib.Ieee.{nan};
 ghost use lib.Ieee.Scale.{finite};
-ghost use Rattle.numbers.specs.Notation.{num};
+ghost use Rattle.numbers.specs.Notation.{num, was, became};
 ghost use Rattle.numbers.specs.Walks.{every};
 ghost use Rattle.solve.specs.Rule as R;
 ghost use Rattle.profile.specs.Layout.{need};
@@ -26,7 +26,7 @@ pub enum Solved {
 // The m places from p on.
 fn clear(w: &mut [f32], p: usize, m: usize)
     requires { ⌜ p + m ≤ length (now w) ⌝ }
-    ensures { λ _. ⌜ now (w .exit) ≡ P.cleared (now (w .entry)) p m ⌝ }
+    ensures { λ _. ⌜ became w ≡ P.clearedAt (was w) p m ⌝ }
 {
     let mut k = 0usize;
     while k < m {
@@ -38,7 +38,7 @@ fn clear(w: &mut [f32], p: usize, m: usize)
 // The rows of L, without the diagonal.
 fn clear_rows(w: &mut [f32], n: usize)
     requires { ⌜ n * n ≤ length (now w) ⌝ }
-    ensures { λ _. ⌜ now (w .exit) ≡ P.clearedRows (now (w .entry)) n n ⌝ }
+    ensures { λ _. ⌜ became w ≡ P.clearedRows (was w) n n ⌝ }
 {
     let mut i = 0usize;
     while i < n {
@@ -50,7 +50,7 @@ fn clear_rows(w: &mut [f32], n: usize)
 // All of L.
 fn clear_lower(w: &mut [f32], n: usize)
     requires { ⌜ need n ≤ length (now w) ⌝ }
-    ensures { λ _. ⌜ now (w .exit) ≡ workAfter (now (w .entry)) n (P.stepOf (now (w .entry)) n) ⌝ }
+    ensures { λ _. ⌜ became w ≡ workAfter (was w) n (P.stepOf (was w) n) ⌝ }
 {
     clear_rows(w, n);
     clear(w, n * n, n);
@@ -61,7 +61,7 @@ fn clear_lower(w: &mut [f32], n: usize)
 // v less the products of the numbers from p on and from q on, the k-th of each for k from a up to m.
 fn less(w: &[f32], v: f32, p: usize, q: usize, a: usize, m: usize) -> f32
     requires { ⌜ (p + m ≤ length (now w)) × (q + m ≤ length (now w)) ⌝ }
-    ensures { λ r. ⌜ r ≡ P.lessAt (now (w .entry)) v (p + a) (q + a) (m - a) ⌝ }
+    ensures { λ r. ⌜ r ≡ P.lessAt (was w) v (p + a) (q + a) (m - a) ⌝ }
 {
     let mut s = v;
     let mut k = a;
@@ -75,7 +75,7 @@ fn less(w: &[f32], v: f32, p: usize, q: usize, a: usize, m: usize) -> f32
 // L(i,j), the next entry of row i, which stands from p on and starts at s.
 fn next_entry(w: &[f32], n: usize, f: &[usize; 384], i: usize, j: usize, s: usize, p: usize) -> f32
     requires { ⌜ (i < n) × (j < i) × (need n ≤ length (now w)) × (p ≡ i * n) ⌝ }
-    ensures { λ r. ⌜ r ≡ P.nextEntry (now (w .entry)) n (now (f .entry)) i j s ⌝ }
+    ensures { λ r. ⌜ r ≡ P.nextEntry (was w) n (was f) i j s ⌝ }
 {
     let q = j * n;
     let v = w[q + i];
@@ -85,7 +85,7 @@ fn next_entry(w: &[f32], n: usize, f: &[usize; 384], i: usize, j: usize, s: usiz
 // Row i of L below the diagonal, from its start s on.
 fn row_from(w: &mut [f32], n: usize, f: &[usize; 384], i: usize, s: usize)
     requires { ⌜ (i < n) × (need n ≤ length (now w)) × (s ≡ firstOf (now f) i) ⌝ }
-    ensures { λ _. ⌜ now (w .exit) ≡ P.rowFrom (now (w .entry)) n (now (f .entry)) i (i - s) ⌝ }
+    ensures { λ _. ⌜ became w ≡ P.rowFrom (was w) n (was f) i (i - s) ⌝ }
 {
     let p = i * n;
     let mut j = s;
@@ -98,7 +98,7 @@ fn row_from(w: &mut [f32], n: usize, f: &[usize; 384], i: usize, s: usize)
 // The pivot of row i, its products from a on.
 fn pivot_from(w: &[f32], n: usize, damping: f32, i: usize, a: usize) -> f32
     requires { ⌜ (i < n) × (need n ≤ length (now w)) ⌝ }
-    ensures { λ r. ⌜ r ≡ P.pivotFrom (now (w .entry)) n damping i a ⌝ }
+    ensures { λ r. ⌜ r ≡ P.pivotFrom (was w) n damping i a ⌝ }
 {
     let p = i * n;
     less(w, w[p + i] + damping, p, p, a, i)
@@ -118,14 +118,14 @@ fn serves(p: f32) -> bool
 // L with its diagonal, row by row, up to a pivot that fails.
 fn factor(w: &mut [f32], n: usize, f: &[usize; 384], damping: f32) -> bool
     requires { ⌜ need n ≤ length (now w) ⌝ }
-    ensures { λ r. ⌜ (r, now (w .exit)) ≡ P.rowsFrom (now (w .entry)) n (now (f .entry)) damping 0 n ⌝ }
+    ensures { λ r. ⌜ (r, became w) ≡ P.rowsFrom (was w) n (was f) damping 0 n ⌝ }
 {
     let mut i = 0usize;
     while i < n {
         let s = profile::first_of(f, i);
         row_from(w, n, f, i, s);
         let p = pivot_from(w, n, damping, i, s);
-        w[n * n + i] = numbers::sqrt32(p);
+        w[n * n + i] = roots::sqrt32(p);
         if !serves(p) {
             return false;
         }
@@ -139,7 +139,7 @@ fn factor(w: &mut [f32], n: usize, f: &[usize; 384], damping: f32) -> bool
 // y(i)
 fn next_ahead(w: &[f32], n: usize, f: &[usize; 384], i: usize) -> f32
     requires { ⌜ (i < n) × (need n ≤ length (now w)) ⌝ }
-    ensures { λ r. ⌜ r ≡ P.nextAhead (now (w .entry)) n (now (f .entry)) i ⌝ }
+    ensures { λ r. ⌜ r ≡ P.nextAhead (was w) n (was f) i ⌝ }
 {
     let d = n * n;
     let g = d + n;
@@ -157,7 +157,7 @@ fn next_ahead(w: &[f32], n: usize, f: &[usize; 384], i: usize) -> f32
 
 fn forward(w: &mut [f32], n: usize, f: &[usize; 384])
     requires { ⌜ need n ≤ length (now w) ⌝ }
-    ensures { λ _. ⌜ now (w .exit) ≡ P.forwardFrom (now (w .entry)) n (now (f .entry)) n ⌝ }
+    ensures { λ _. ⌜ became w ≡ P.forwardFrom (was w) n (was f) n ⌝ }
 {
     let x = n * n + n + n;
     let mut i = 0usize;
@@ -169,7 +169,7 @@ fn forward(w: &mut [f32], n: usize, f: &[usize; 384])
 
 // Whether L(k,i) x(k) is left out of s: row k starts after i, so that it is ±0, and s is no zero.
 fn left_out(f: &[usize; 384], i: usize, s: f32, k: usize) -> bool
-    ensures { λ r. ⌜ r ≡ P.leftOut (now (f .entry)) i s k ⌝ }
+    ensures { λ r. ⌜ r ≡ P.leftOut (was f) i s k ⌝ }
 {
     if i < profile::first_of(f, k) {
         s != 0.0
@@ -181,7 +181,7 @@ fn left_out(f: &[usize; 384], i: usize, s: f32, k: usize) -> bool
 // s less L(k,i) x(k), where the step stands from x on
 fn next_below(w: &[f32], n: usize, f: &[usize; 384], i: usize, s: f32, k: usize, x: usize) -> f32
     requires { ⌜ (i < k) × (k < n) × (need n ≤ length (now w)) × (x ≡ n * n + n + n) ⌝ }
-    ensures { λ r. ⌜ r ≡ P.nextBelow (now (w .entry)) n (now (f .entry)) i s k ⌝ }
+    ensures { λ r. ⌜ r ≡ P.nextBelow (was w) n (was f) i s k ⌝ }
 {
     if left_out(f, i, s, k) {
         return s;
@@ -192,7 +192,7 @@ fn next_below(w: &[f32], n: usize, f: &[usize; 384], i: usize, s: f32, k: usize,
 // x(i): for all k after i.
 fn back_from(w: &[f32], n: usize, f: &[usize; 384], i: usize, x: usize) -> f32
     requires { ⌜ (i < n) × (need n ≤ length (now w)) × (x ≡ n * n + n + n) ⌝ }
-    ensures { λ r. ⌜ r ≡ P.backFrom (now (w .entry)) n (now (f .entry)) i ⌝ }
+    ensures { λ r. ⌜ r ≡ P.backFrom (was w) n (was f) i ⌝ }
 {
     let mut s = w[x + i];
     let mut k = i + 1usize;
@@ -205,7 +205,7 @@ fn back_from(w: &[f32], n: usize, f: &[usize; 384], i: usize, x: usize) -> f32
 
 fn backward(w: &mut [f32], n: usize, f: &[usize; 384])
     requires { ⌜ need n ≤ length (now w) ⌝ }
-    ensures { λ _. ⌜ now (w .exit) ≡ P.backwardFrom (now (w .entry)) n (now (f .entry)) n ⌝ }
+    ensures { λ _. ⌜ became w ≡ P.backwardFrom (was w) n (was f) n ⌝ }
 {
     let x = n * n + n + n;
     let mut i = n;
@@ -218,7 +218,7 @@ fn backward(w: &mut [f32], n: usize, f: &[usize; 384])
 // Whether the m numbers from p on are finite.
 fn all_finite(w: &[f32], p: usize, m: usize) -> bool
     requires { ⌜ p + m ≤ length (now w) ⌝ }
-    ensures { λ r. ⌜ r ≡ every (λ k. finite (getD (now (w .entry)) (p + k) nan)) m ⌝ }
+    ensures { λ r. ⌜ r ≡ every (λ k. finite (getD (was w) (p + k) nan)) m ⌝ }
 {
     let mut k = 0usize;
     while k < m {
@@ -235,7 +235,7 @@ fn all_finite(w: &[f32], p: usize, m: usize) -> bool
 // Whether there is a step: it then stands in its places. L's places are left as they come.
 fn solves(w: &mut [f32], n: usize, f: &[usize; 384], damping: f32) -> bool
     requires { ⌜ need n ≤ length (now w) ⌝ }
-    ensures { λ r. ⌜ (r, now (w .exit)) ≡ P.solvedFrom (now (w .entry)) n (now (f .entry)) damping ⌝ }
+    ensures { λ r. ⌜ (r, became w) ≡ P.solvedFrom (was w) n (was f) damping ⌝ }
 {
     if !factor(w, n, f, damping) {
         return false;
@@ -245,7 +245,7 @@ fn solves(w: &mut [f32], n: usize, f: &[usize; 384], damping: f32) -> bool
     all_finite(w, n * n + n + n, n)
 }
 
-// How many of n numbers of the step are cleared.
+// How many of n numbers of the step are clearedAt.
 fn to_clear(found: bool, n: usize) -> usize
     ensures { λ r. ⌜ r ≡ cond found 0 n ⌝ }
 {
@@ -254,7 +254,7 @@ fn to_clear(found: bool, n: usize) -> usize
 
 // The work w holds a system of n unknowns: its step for the damping.
 pub fn solve_damped(w: &mut [f32], n: usize, damping: f32) -> Solved
-    ensures { λ r. ⌜ (r ≡ solvedAs (now (w .entry)) n damping) × (now (w .exit) ≡ leaves (now (w .entry)) n damping (solvedAs (now (w .entry)) n damping)) ⌝ }
+    ensures { λ r. ⌜ (r ≡ solvedAs (was w) n damping) × (became w ≡ leaves (was w) n damping (solvedAs (was w) n damping)) ⌝ }
 {
     if !profile::has_room(w.len(), n) {
         return Solved::Short;

@@ -11,7 +11,7 @@ use lib.Ieee.{Float, binary32, lt, fits}
 use lib.Ieee.Scale.{finite}
 use Rattle.numbers.specs.Notation.{_⊞_, num, if-then}
 use Rattle.numbers.specs.Walks.{done}
-use Rattle.numbers.proofs.Bounded.{norm-finite, damped-finite}
+use Rattle.roots.proofs.Bounded.{norm-finite, damped-finite}
 use Rattle.graph.specs.Graph.{Links, linksOf, freeCount}
 use Rattle.graph.specs.Lent.{dofOf, poseAt}
 use Rattle.checks.specs.Input.{Input, graphOf}

@@ -3,6 +3,7 @@
 ghost use mathlib.Core.Path.{_≡_};
 ghost use Prim.Native.Nat.{_*_, _<_};
 ghost use lib.ListN.{length};
+ghost use Rattle.numbers.specs.Notation.{was, became};
 ghost use Rattle.decisions.specs.Run.{iterations};
 ghost use Rattle.profile.specs.Layout.{need};
 ghost use Rattle.sparse_pgo.specs.Parts.{hasConverged, answerAfter};
@@ -57,7 +58,7 @@ pub struct Job {
 // What an assembly comes to: a gradient whose norm is below the tolerance has converged.
 fn assembly_of(job: Job, made: Assembled, w32: &[f32]) -> Assembly
     requires { ⌜ Sized job × (length (now w32) ≡ need (job .n)) ⌝ }
-    ensures { λ r. ⌜ r ≡ assemblyIn job made (now (w32 .entry)) ⌝ }
+    ensures { λ r. ⌜ r ≡ assemblyIn job made (was w32) ⌝ }
 {
     match made {
         Assembled::Bad { edge, why: _ } => Assembly::Refused(Refusal {
@@ -92,7 +93,7 @@ fn pass_top(
 ) -> Gate
     requires { ⌜ Sized job × (length (now w32) ≡ need (job .n)) ⌝ }
     requires { ⌜ AtTop job (linksIn job (now ends) (now edges) (now blocks)) s (now poses) (now w32) ⌝ }
-    ensures { λ r. ⌜ Passed job (linksIn job (now (ends .entry)) (now (edges .entry)) (now (blocks .entry))) s (now (poses .entry)) r (now (w32 .exit)) ⌝ }
+    ensures { λ r. ⌜ Passed job (linksIn job (was ends) (was edges) (was blocks)) s (was poses) r (became w32) ⌝ }
 {
     let fresh = s.fresh;
     if !fresh {
@@ -128,7 +129,7 @@ fn attempt(
 ) -> Outcome
     requires { ⌜ Lent job (now w32) (now w64) ⌝ }
     requires { ⌜ Holds job (linksIn job (now ends) (now edges) (now blocks)) (heldIn job (now w64)) (now w32) ⌝ }
-    ensures { λ r. ⌜ Attempted job (linksIn job (now (ends .entry)) (now (edges .entry)) (now (blocks .entry))) s (now (w64 .entry)) r (now (w32 .exit)) (now (w64 .exit)) ⌝ }
+    ensures { λ r. ⌜ Attempted job (linksIn job (was ends) (was edges) (was blocks)) s (was w64) r (became w32) (became w64) ⌝ }
 {
     let n = job.n;
     let Solved::Step = solve::solve_damped(w32, n, s.damping) else {
@@ -150,7 +151,7 @@ fn one_turn(
 ) -> Next
     requires { ⌜ Lent job (now w32) (now w64) × (s .accepted < 4294967295) ⌝ }
     requires { ⌜ AtTop job (linksIn job (now ends) (now edges) (now blocks)) s (heldIn job (now w64)) (now w32) ⌝ }
-    ensures { λ r. ⌜ Turned job (linksIn job (now (ends .entry)) (now (edges .entry)) (now (blocks .entry))) s (now (w64 .entry)) r (now (w32 .exit)) (now (w64 .exit)) ⌝ }
+    ensures { λ r. ⌜ Turned job (linksIn job (was ends) (was edges) (was blocks)) s (was w64) r (became w32) (became w64) ⌝ }
 {
     let half = job.poses * 12;
     match pass_top(job, ends, edges, blocks, s, &w64[..half], w32) {
@@ -209,7 +210,7 @@ fn started(
     w64: &mut [f64],
 ) -> Answer
     requires { ⌜ Lent job (now w32) (now w64) × Startable job ⌝ }
-    ensures { λ r. ⌜ Started job (linksIn job (now (ends .entry)) (now (edges .entry)) (now (blocks .entry))) (now (w64 .entry)) r (now (w64 .exit)) ⌝ }
+    ensures { λ r. ⌜ Started job (linksIn job (was ends) (was edges) (was blocks)) (was w64) r (became w64) ⌝ }
 {
     let half = job.poses * 12;
     let found = costs::active_total_squared_residual_cost(
@@ -254,7 +255,7 @@ fn begun(
 ) -> Answer
     requires { ⌜ Lent job (now w32) (now w64) × Startable job ⌝ }
     requires { ⌜ (length (now poses) ≡ job .poses * 12) × (length (now out) ≡ length (now poses)) ⌝ }
-    ensures { λ r. ⌜ Begun job (linksIn job (now (ends .entry)) (now (edges .entry)) (now (blocks .entry))) (now (poses .entry)) (now (w32 .entry)) (now (w64 .entry)) (now (out .entry)) r (now (w32 .exit)) (now (w64 .exit)) (now (out .exit)) ⌝ }
+    ensures { λ r. ⌜ Begun job (linksIn job (was ends) (was edges) (was blocks)) (was poses) (was w32) (was w64) (was out) r (became w32) (became w64) (became out) ⌝ }
 {
     let half = job.poses * 12;
     slices::copy64(poses, &mut w64[..half]);
@@ -279,7 +280,7 @@ pub fn sparse_pose_graph_optimize(
     work64: &mut [f64],
     out: &mut [f64],
 ) -> Answer
-    ensures { λ r. ⌜ record { answer = r; work32 = now (work32 .exit); work64 = now (work64 .exit); out = now (out .exit) } ≡ optimizedOn manifold (now (poses .entry)) (now (ends .entry)) (now (edges .entry)) (now (fixed .entry)) settings (now (work32 .entry)) (now (work64 .entry)) (now (out .entry)) ⌝ }
+    ensures { λ r. ⌜ record { answer = r; work32 = became work32; work64 = became work64; out = became out } ≡ optimizedOn manifold (was poses) (was ends) (was edges) (was fixed) settings (was work32) (was work64) (was out) ⌝ }
 {
     let room = Room {
         work32: work32.len(),
@@ -335,7 +336,7 @@ pub fn optimize(
     work64: &mut [f64],
     out: &mut [f64],
 ) -> Answer
-    ensures { λ r. ⌜ record { answer = r; work32 = now (work32 .exit); work64 = now (work64 .exit); out = now (out .exit) } ≡ optimizedOn Manifold.Se3 (now (poses .entry)) (now (ends .entry)) (now (edges .entry)) (now (fixed .entry)) settings (now (work32 .entry)) (now (work64 .entry)) (now (out .entry)) ⌝ }
+    ensures { λ r. ⌜ record { answer = r; work32 = became work32; work64 = became work64; out = became out } ≡ optimizedOn Manifold.Se3 (was poses) (was ends) (was edges) (was fixed) settings (was work32) (was work64) (was out) ⌝ }
 {
     sparse_pose_graph_optimize(
         Manifold::Se3,
@@ -362,7 +363,7 @@ pub fn optimize_with_gravity(
     work64: &mut [f64],
     out: &mut [f64],
 ) -> Answer
-    ensures { λ r. ⌜ record { answer = r; work32 = now (work32 .exit); work64 = now (work64 .exit); out = now (out .exit) } ≡ optimizedOn (Manifold.Gravity gravity) (now (poses .entry)) (now (ends .entry)) (now (edges .entry)) (now (fixed .entry)) settings (now (work32 .entry)) (now (work64 .entry)) (now (out .entry)) ⌝ }
+    ensures { λ r. ⌜ record { answer = r; work32 = became work32; work64 = became work64; out = became out } ≡ optimizedOn (Manifold.Gravity gravity) (was poses) (was ends) (was edges) (was fixed) settings (was work32) (was work64) (was out) ⌝ }
 {
     sparse_pose_graph_optimize(
         Manifold::Gravity(gravity),

@@ -33,6 +33,10 @@ quatNumbers q = q.x ∷ q.y ∷ q.z ∷ q.w ∷ []
 abbrev pub transformNumbers : Transform → List Float
 transformNumbers a = a.q .x ∷ a.q .y ∷ a.q .z ∷ a.q .w ∷ a.t .x ∷ a.t .y ∷ a.t .z ∷ []
 
+-- the lengths of a product's two factors and of where it goes: each a transform
+abbrev pub fitsProduct : ℕ → ℕ → ℕ → Bool
+fitsProduct a b out = eqb a 7 && (eqb b 7 && eqb out 7)
+
 -- an assembly: 0, or the number of the row that refuses
 abbrev pub builtNumber : Assembled → ℕ
 builtNumber assembled.Done = 0

@@ -11,7 +11,7 @@ use lib.Dec.{ltb}
 use lib.ListN.{length, getD}
 use lib.Ieee.{Float, nan, binary64}
 use Rattle.numbers.specs.Notation.{_⊗_, num, if-then}
-use Rattle.numbers.specs.Numbers.{root64}
+use Rattle.roots.specs.Roots.{root64}
 use Rattle.numbers.proofs.Walking.{every-ext, sum-ext}
 use Rattle.numbers.proofs.Tables.{table-ext}
 use Rattle.graph.specs.Lent.{dofOf, none, slotIn}

@@ -6,7 +6,7 @@ use lib.Dec.{ltb}
 use lib.ListN.{length, getD, take, drop}
 use lib.Ieee.{Float, nan, binary64, lt}
 use Rattle.numbers.specs.Notation.{_⊗_, num, ratio32, if-then}
-use Rattle.numbers.specs.Numbers.{root64}
+use Rattle.roots.specs.Roots.{root64}
 use Rattle.numbers.specs.Walks.{every, table, sumOf, Ended, done, stopped}
 use Rattle.pose_conversion.specs.Conversions.{restoring}
 use Rattle.graph.specs.Graph.{Links}

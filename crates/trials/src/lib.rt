@@ -4,6 +4,7 @@ ghost use mathlib.Core.Path.{_≡_};
 ghost use Prim.Native.Nat.{_≤_, _*_};
 ghost use lib.ListN.{length, getD};
 ghost use lib.Ieee.{nan};
+ghost use Rattle.numbers.specs.Notation.{was, became};
 ghost use Rattle.graph.specs.Lent.{slotIn, lentLinks};
 ghost use Rattle.trials.specs.Trials.{normOf, partOf, takenOver, tryAnswers, tryLeaves, trialIn};
 ghost use Rattle.trials.specs.forms.Passes.{Moves, Retracted, Evaluated};
@@ -21,7 +22,7 @@ const STEP_SIZE_TOLERANCE: f32 = 1e-6;
 
 // √ of the sum of squares, in f64. (The Rust's finite_l2_norm; that it is finite is a law.)
 pub fn l2_norm(v: &[f32]) -> f64
-    ensures { λ r. ⌜ r ≡ normOf (λ i. getD (now (v .entry)) i nan) (length (now (v .entry))) ⌝ }
+    ensures { λ r. ⌜ r ≡ normOf (λ i. getD (was v) i nan) (length (was v)) ⌝ }
 {
     let mut sum = 0.0f64;
     let mut i = 0usize;
@@ -30,13 +31,13 @@ pub fn l2_norm(v: &[f32]) -> f64
         sum = sum + x * x;
         i += 1;
     }
-    numbers::sqrt64(sum)
+    roots::sqrt64(sum)
 }
 
 // The DOF numbers of block b of a step, then +0 up to six.
 fn delta_of(step: &[f32], dof: usize, b: usize) -> [f32; 6]
     requires { ⌜ (dof ≤ 6) × (b ≤ 4294967296) ⌝ }
-    ensures { λ r. ⌜ r ≡ partOf dof (λ i. getD (now (step .entry)) i nan) b ⌝ }
+    ensures { λ r. ⌜ r ≡ partOf dof (λ i. getD (was step) i nan) b ⌝ }
 {
     let mut delta = [0.0f32; 6];
     let mut j = 0usize;
@@ -62,7 +63,7 @@ fn moved_pose(
     poses: &[f64],
     p: usize,
 ) -> TrialPose
-    ensures { λ r. ⌜ Moves m (now (poses .entry)) (λ i. getD (now (step .entry)) i nan) p (slotIn (now (blocks .entry)) free p) r ⌝ }
+    ensures { λ r. ⌜ Moves m (was poses) (λ i. getD (was step) i nan) p (slotIn (was blocks) free p) r ⌝ }
 {
     let pose = graph::pose_at(poses, p);
     let Slot::Block(b) = graph::slot_at(blocks, free, p) else {
@@ -80,7 +81,7 @@ fn moved_pose(
 
 // The trial's poses, each from the accepted one. Whether all retractions went well.
 fn retract_free(m: Manifold, blocks: &[u32; 256], free: u32, step: &[f32], w: &mut [f64]) -> bool
-    ensures { λ r. ⌜ Retracted m (slotIn (now (blocks .entry)) free) (λ i. getD (now (step .entry)) i nan) (now (w .entry)) r (now (w .exit)) ⌝ }
+    ensures { λ r. ⌜ Retracted m (slotIn (was blocks) free) (λ i. getD (was step) i nan) (was w) r (became w) ⌝ }
 {
     let n = w.len() / 24;
     let half = n * 12;
@@ -98,7 +99,7 @@ fn retract_free(m: Manifold, blocks: &[u32; 256], free: u32, step: &[f32], w: &m
 
 // The trial's poses become the accepted ones.
 fn accept(w: &mut [f64])
-    ensures { λ _. ⌜ now (w .exit) ≡ takenOver (now (w .entry)) ⌝ }
+    ensures { λ _. ⌜ became w ≡ takenOver (was w) ⌝ }
 {
     let half = (w.len() / 24) * 12;
     let mut i = 0usize;
@@ -119,7 +120,7 @@ fn evaluate_trial(
     step: &[f32],
     w: &mut [f64],
 ) -> Trial
-    ensures { λ r. ⌜ Evaluated m (lentLinks (now (ends .entry)) (now (edges .entry)) (now (blocks .entry)) free) cost (λ i. getD (now (step .entry)) i nan) (now (w .entry)) r (now (w .exit)) ⌝ }
+    ensures { λ r. ⌜ Evaluated m (lentLinks (was ends) (was edges) (was blocks) free) cost (λ i. getD (was step) i nan) (was w) r (became w) ⌝ }
 {
     if !retract_free(m, blocks, free, step, w) {
         return Trial::Rejected(Reason::Numerical(Numerical::Retraction));
@@ -143,8 +144,8 @@ pub fn try_step(
     step: &[f32],
     w: &mut [f64],
 ) -> Outcome
-    ensures { λ r. ⌜ r ≡ tryAnswers m (lentLinks (now (ends .entry)) (now (edges .entry)) (now (blocks .entry)) free) cost (now (step .entry)) (now (w .entry)) ⌝ }
-    ensures { λ r. ⌜ now (w .exit) ≡ tryLeaves r (now (w .entry)) (trialIn m (slotIn (now (blocks .entry)) free) (λ i. getD (now (step .entry)) i nan) (now (w .entry))) ⌝ }
+    ensures { λ r. ⌜ r ≡ tryAnswers m (lentLinks (was ends) (was edges) (was blocks) free) cost (was step) (was w) ⌝ }
+    ensures { λ r. ⌜ became w ≡ tryLeaves r (was w) (trialIn m (slotIn (was blocks) free) (λ i. getD (was step) i nan) (was w)) ⌝ }
 {
     let norm = l2_norm(step);
     if norm < numbers::widen(STEP_SIZE_TOLERANCE) {

@@ -1,7 +1,7 @@
 use mathlib.Core.Path.{_≡_}
 use lib.Ieee.{Float}
 use Rattle.numbers.specs.Notation.{_⊠_}
-use Rattle.numbers.specs.Numbers.{narrowed}
+use Rattle.rounding.specs.Rounding.{narrowed}
 use Rattle.rotations.specs.declared.Vec3.{Vec3}
 use Rattle.rotations.specs.declared.Vec3F32.{Vec3F32}
 use Rattle.residual.specs.Residuals.{weightedVec}

@@ -6,23 +6,23 @@ use denote.Ref.{now}
 use mathlib.Core.List.{List}
 use lib.ListN.{length, set, length-set}
 use lib.Ieee.{Float, binary32, ofBits}
-use Rattle.solve.specs.forms.Profile.{cleared}
+use Rattle.solve.specs.forms.Profile.{clearedAt}
 use Rattle.profile.proofs.Zeros.{literal-zero}
 use Rattle.solve.proofs.clear.Statement.{statement}
 use Rattle.solve.proofs.clear.Tie as tie
 
 abbrev Inv-loop : tie.InvT-loop
-Inv-loop w₀ p m k₀ w k = (k ≤ m) × (length w ≡ length w₀) × (w ≡ cleared w₀ p k)
+Inv-loop w₀ p m k₀ w k = (k ≤ m) × (length w ≡ length w₀) × (w ≡ clearedAt w₀ p k)
 
 abbrev μ-loop : tie.MeasureT-loop
 μ-loop w₀ p m k₀ w k = m - k
 
-turn : (w u : List Float) (p k : ℕ) → u ≡ cleared w p k → set u (p + k) (ofBits binary32 0) ≡ cleared w p (k + 1)
-unfolding cleared
+turn : (w u : List Float) (p k : ℕ) → u ≡ clearedAt w p k → set u (p + k) (ofBits binary32 0) ≡ clearedAt w p (k + 1)
+unfolding clearedAt
 turn w u p k e = rw (add-one k, ← e, literal-zero)
 
 loop-holds : tie.Need-loop-holds Inv-loop μ-loop
-unfolding cleared
+unfolding clearedAt
 loop-holds c = (omega arith, refl, refl)
 
 add-w : tie.Need-add-w Inv-loop μ-loop
@@ -53,7 +53,7 @@ returns : tie.Need-returns Inv-loop μ-loop
 returns c =
     let a = c .before .before .args in
     let e : c .before .loop .k ≡ a .m = omega arith in
-    c .before .loop .inv .2 ∙ ap (cleared (now (a .w)) (a .p)) e
+    c .before .loop .inv .2 ∙ ap (clearedAt (now (a .w)) (a .p)) e
 
 pub clear-spec : {M : Type 1} → statement M
 clear-spec =

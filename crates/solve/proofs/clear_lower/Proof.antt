@@ -7,12 +7,12 @@ use lib.ListN.{length}
 use lib.Ieee.{Float}
 use Rattle.profile.specs.Layout.{need}
 use Rattle.solve.specs.Work.{workAfter}
-use Rattle.solve.specs.forms.Profile.{stepOf, cleared, clearedRows}
+use Rattle.solve.specs.forms.Profile.{stepOf, clearedAt, clearedRows}
 use Rattle.solve.proofs.Places.{cleared-lower}
 use Rattle.solve.proofs.clear_lower.Statement.{statement}
 use Rattle.solve.proofs.clear_lower.Tie as tie
 
-both : (w u v : List Float) (n : ℕ) → need n ≤ length w → u ≡ clearedRows w n n → v ≡ cleared u (n * n) n → v ≡ workAfter w n (stepOf w n)
+both : (w u v : List Float) (n : ℕ) → need n ≤ length w → u ≡ clearedRows w n n → v ≡ clearedAt u (n * n) n → v ≡ workAfter w n (stepOf w n)
 both w u v n long e h = h ∙ rw e (cleared-lower w n long)
 
 clear-rows-requires : tie.Need-clear-rows-requires

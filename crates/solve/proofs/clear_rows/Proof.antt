@@ -6,7 +6,7 @@ use native.Mathlib.Omega.{arith}
 use denote.Ref.{now}
 use lib.ListN.{length}
 use lib.Ieee.{Float}
-use Rattle.solve.specs.forms.Profile.{cleared, clearedRows}
+use Rattle.solve.specs.forms.Profile.{clearedAt, clearedRows}
 use Rattle.profile.proofs.Index.{before}
 use Rattle.solve.proofs.clear_rows.Statement.{statement}
 use Rattle.solve.proofs.clear_rows.Tie as tie
@@ -21,7 +21,7 @@ abbrev μ-loop : tie.MeasureT-loop
 own : (c : tie.After-clear-arg Inv-loop μ-loop) → c .before .before .loop .i * c .before .before .before .before .args .n + c .before .before .before .before .args .n ≤ c .before .before .before .before .args .n * c .before .before .before .before .args .n
 own c = before (c .before .before .before .before .args .n) (c .before .before .loop .i) (c .before .before .before .before .args .n) (omega arith)
 
-turn : (w u v : List Float) (n i : ℕ) → u ≡ clearedRows w n i → v ≡ cleared u (i * n) i → v ≡ clearedRows w n (i + 1)
+turn : (w u v : List Float) (n i : ℕ) → u ≡ clearedRows w n i → v ≡ clearedAt u (i * n) i → v ≡ clearedRows w n (i + 1)
 unfolding clearedRows
 turn w u v n i e h = rw (add-one i, ← e) h
 

@@ -9,7 +9,7 @@ use borrow.Author.Tests.{not-true, not-false}
 use denote.Ref.{now}
 use lib.ListN.{length, set, length-set}
 use lib.Ieee.{Float}
-use Rattle.numbers.specs.Numbers.{root32}
+use Rattle.roots.specs.Roots.{root32}
 use Rattle.profile.specs.Starts.{firstOf}
 use Rattle.solve.specs.Rule.{serves}
 use Rattle.solve.specs.forms.Profile.{rowFrom, pivotFrom, onward, wholeRow, rowsFrom}

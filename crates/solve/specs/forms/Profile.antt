@@ -9,7 +9,7 @@ use lib.ListN.{getD, set}
 use lib.Ieee.{Float, nan, neg, ne}
 use lib.Ieee.Scale.{finite}
 use Rattle.numbers.specs.Notation.{_⊞_, _⊟_, _⊠_, _⧄_, num}
-use Rattle.numbers.specs.Numbers.{root32}
+use Rattle.roots.specs.Roots.{root32}
 use Rattle.numbers.specs.Walks.{every}
 use Rattle.profile.specs.Starts.{firstOf, startAt}
 use Rattle.solve.specs.Rule.{less, serves}
@@ -29,14 +29,14 @@ stepOf w n i = getD w (n * n + n + n + i) nan
 -- ---- +0 in many places
 
 -- the m places from p on
-unfoldable pub cleared : List Float → ℕ → ℕ → List Float
-cleared w p zero = w
-cleared w p (suc k) = set (cleared w p k) (p + k) (num 0)
+unfoldable pub clearedAt : List Float → ℕ → ℕ → List Float
+clearedAt w p zero = w
+clearedAt w p (suc k) = set (clearedAt w p k) (p + k) (num 0)
 
 -- the first m rows of L, without the diagonal
 unfoldable pub clearedRows : List Float → ℕ → ℕ → List Float
 clearedRows w n zero = w
-clearedRows w n (suc i) = cleared (clearedRows w n i) (i * n) i
+clearedRows w n (suc i) = clearedAt (clearedRows w n i) (i * n) i
 
 -- ---- the factor
 

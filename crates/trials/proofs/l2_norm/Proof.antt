@@ -5,7 +5,7 @@ use native.Mathlib.Omega.{arith}
 use lib.ListN.{length, getD}
 use lib.Ieee.{nan, binary64}
 use Rattle.numbers.specs.Notation.{_⊗_}
-use Rattle.numbers.specs.Numbers.{root64}
+use Rattle.roots.specs.Roots.{root64}
 use Rattle.numbers.specs.Walks.{sumOf}
 use Rattle.numbers.proofs.Walking.{sum-more}
 use Rattle.trials.specs.Trials.{normOf}

@@ -1,0 +1,4 @@
+pub mod Fractions
+pub mod Narrowing
+pub mod Widening
+pub mod Own
