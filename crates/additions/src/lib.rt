@@ -205,7 +205,8 @@ pub fn add_ends(
     jb: &[[f32; 6]; 6],
     r: &[f32; 6],
 ) -> Went
-    ensures { λ went. ⌜ (went, became w) ≡ only (fits n dof i (length (was w)) && fits n dof k (length (was w))) (endsAdded lowerTriangle n dof i k (was ja) (was jb) (was r)) (was w) ⌝ }
+    ensures { λ went. ⌜ (went, became w) ≡ only (fits n dof i (length (was w)) && fits n dof k (length (was w)))
+        (endsAdded lowerTriangle n dof i k (was ja) (was jb) (was r)) (was w) ⌝ }
 {
     if !block_fits(w.len(), n, dof, i) {
         return Went::Well;

@@ -10,7 +10,7 @@ use lib.Dec.{ltb, leb}
 use lib.Ieee.{Float}
 use borrow.Author.Tests.{leb-true, ltb-true, ltb-false}
 use Rattle.numbers.specs.Notation.{if-then}
-use Rattle.numbers.specs.Walks.{each, well, only}
+use Rattle.numbers.specs.Walks.{only}
 use Rattle.numbers.specs.declared.Went.{Went}
 use Rattle.numbers.specs.declared.Went.the-variants.{Well, Bad}
 use Rattle.exp_log.specs.declared.Twist.{Twist}

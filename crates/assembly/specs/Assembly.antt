@@ -8,6 +8,8 @@ use lib.ListN.{length}
 use lib.Ieee.{Float}
 use Rattle.numbers.specs.Notation.{if-then}
 use Rattle.numbers.specs.Walks.{Ended, done, stopped, each, only}
+use Rattle.numbers.specs.declared.Failure.{Failure}
+use Rattle.numbers.specs.declared.Failure.the-variants.{Numerical}
 use Rattle.numbers.specs.declared.Went.{Went}
 use Rattle.numbers.specs.declared.Went.the-variants.{Well, Bad}
 use Rattle.slices.specs.Slices.{zeroed}
@@ -87,3 +89,7 @@ assembledFrom (stopped k why w) = (assembled.Bad k why, w)
 
 unfoldable pub assembledOf : Manifold → ℕ → Links Edge → (ℕ → Pose) → List Float → Assembled × List Float
 assembledOf m n l pose w = if-then (ltb (length w) (need n)) (assembled.Short, w) (assembledFrom (assembledEnds m n l pose w))
+
+-- the number of the row that refuses a run, or an assembly alone, whose assembly can't be had
+abbrev pub assemblyRow : Failure → ℕ
+assemblyRow Numerical = 21

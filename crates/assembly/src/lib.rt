@@ -111,7 +111,8 @@ fn add_one(
     end: EdgeEndpoint,
     block: usize,
 ) -> Went
-    requires { ⌜ (block * dofOf m + dofOf m ≤ n) × (x < 256) × (length (now known) ≡ 26624) × SharesTurn (stowedProbes (now known) x) × (need n ≤ length (now w)) ⌝ }
+    requires { ⌜ (block * dofOf m + dofOf m ≤ n) × (x < 256) × (length (now known) ≡ 26624) × SharesTurn (stowedProbes (now known) x)
+        × (need n ≤ length (now w)) ⌝ }
     ensures { λ went. ⌜ (went, became w) ≡ oneIn (dofOf m) n (stowedProbes (was known) x) linked end block (was w) ⌝ }
 {
     match linked {
@@ -140,7 +141,8 @@ fn add_both(
     i: usize,
     k: usize,
 ) -> Went
-    requires { ⌜ (i * dofOf m + dofOf m ≤ n) × (k * dofOf m + dofOf m ≤ n) × (a < 256) × (b < 256) × (length (now known) ≡ 26624) × SharesTurn (stowedProbes (now known) a) × SharesTurn (stowedProbes (now known) b) × (need n ≤ length (now w)) ⌝ }
+    requires { ⌜ (i * dofOf m + dofOf m ≤ n) × (k * dofOf m + dofOf m ≤ n) × (a < 256) × (b < 256) × (length (now known) ≡ 26624)
+        × SharesTurn (stowedProbes (now known) a) × SharesTurn (stowedProbes (now known) b) × (need n ≤ length (now w)) ⌝ }
     ensures { λ went. ⌜ (went, became w) ≡ bothIn (dofOf m) n (stowedProbes (was known) a) (stowedProbes (was known) b) linked i k (was w) ⌝ }
 {
     match linked {
@@ -187,7 +189,8 @@ fn add_edge(
     k: usize,
 ) -> Went
     requires { ⌜ Shaped shape (now poses) (now blocks) (now known) × (need (shape .n) ≤ length (now w)) × (k < 2 ^ 62) ⌝ }
-    ensures { λ went. ⌜ (went, became w) ≡ edgeStep lowerTriangle (shape .manifold) (shape .n) (lentLinks (was ends) (was edges) (was blocks) (shape .free)) (poseAt (was poses)) k (was w) ⌝ }
+    ensures { λ went. ⌜ (went, became w) ≡ edgeStep lowerTriangle (shape .manifold) (shape .n)
+        (lentLinks (was ends) (was edges) (was blocks) (shape .free)) (poseAt (was poses)) k (was w) ⌝ }
 {
     let m = shape.manifold;
     let a = numbers::index_at(ends, k * 2);
@@ -223,7 +226,8 @@ fn add_edges(
     blocks: &[u32; 256],
 ) -> Assembled
     requires { ⌜ Shaped shape (now poses) (now blocks) (now known) × (need (shape .n) ≤ length (now w)) ⌝ }
-    ensures { λ r. ⌜ (r, became w) ≡ assembledFrom (each (edgeStep lowerTriangle (shape .manifold) (shape .n) (lentLinks (was ends) (was edges) (was blocks) (shape .free)) (poseAt (was poses))) (length (was ends) / 2) (was w)) ⌝ }
+    ensures { λ r. ⌜ (r, became w) ≡ assembledFrom (each (edgeStep lowerTriangle (shape .manifold) (shape .n)
+        (lentLinks (was ends) (was edges) (was blocks) (shape .free)) (poseAt (was poses))) (length (was ends) / 2) (was w)) ⌝ }
 {
     for k in 0..ends.len() / 2 {
         if let Went::Bad(why) = add_edge(w, shape, known, poses, ends, edges, blocks, k) {
@@ -242,8 +246,10 @@ fn add_all(
     edges: &[f32],
     blocks: &[u32; 256],
 ) -> Assembled
-    requires { ⌜ (shape .n ≡ dofOf (shape .manifold) * shape .free) × (shape .free ≤ 4294967295) × (length (now blocks) ≡ 256) × (need (shape .n) ≤ length (now w)) ⌝ }
-    ensures { λ r. ⌜ (r, became w) ≡ assembledFrom (each (edgeStep lowerTriangle (shape .manifold) (shape .n) (lentLinks (was ends) (was edges) (was blocks) (shape .free)) (poseAt (was poses))) (length (was ends) / 2) (was w)) ⌝ }
+    requires { ⌜ (shape .n ≡ dofOf (shape .manifold) * shape .free) × (shape .free ≤ 4294967295) × (length (now blocks) ≡ 256)
+        × (need (shape .n) ≤ length (now w)) ⌝ }
+    ensures { λ r. ⌜ (r, became w) ≡ assembledFrom (each (edgeStep lowerTriangle (shape .manifold) (shape .n)
+        (lentLinks (was ends) (was edges) (was blocks) (shape .free)) (poseAt (was poses))) (length (was ends) / 2) (was w)) ⌝ }
 {
     let m = shape.manifold;
     let mut known = [0.0f32; 26624];

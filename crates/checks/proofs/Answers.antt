@@ -13,8 +13,6 @@ use Rattle.numbers.specs.Refusals.{orElse, ask, lowest, verdict}
 use Rattle.numbers.specs.declared.Refusal.{Refusal}
 use Rattle.numbers.specs.declared.Verdict.{Verdict}
 use Rattle.numbers.specs.declared.Verdict.the-variants.{Fine, Refused}
-use Rattle.graph.specs.declared.Manifold.{Manifold}
-use Rattle.graph.specs.declared.Manifold.the-variants.{Se3, Gravity}
 use Rattle.checks.specs.declared.Counts.{Counts}
 use Rattle.checks.specs.declared.Checked.{Checked}
 use Rattle.checks.specs.declared.Checked.the-variants.{Fit, Turned}

@@ -6,3 +6,4 @@ pub mod Loose
 pub mod Answers
 pub mod Row26
 pub mod Passed
+pub mod Slots

@@ -224,7 +224,8 @@ struct Blocks {
 
 // Free poses get the blocks 0, 1, 2 in pose order.
 fn numbered(ends: &[u32], fixed: &[u32]) -> Blocks
-    ensures { λ r. ⌜ (r .at ≡ table (blockNumber (lentGraph [] (was ends) [] (was fixed))) 256) × (r .free ≡ count (isFree (lentGraph [] (was ends) [] (was fixed))) 256) ⌝ }
+    ensures { λ r. ⌜ (r .at ≡ table (blockNumber (lentGraph [] (was ends) [] (was fixed))) 256)
+        × (r .free ≡ count (isFree (lentGraph [] (was ends) [] (was fixed))) 256) ⌝ }
 {
     let marks = free_poses(ends, fixed);
     let mut at = [4294967295u32; 256];

@@ -182,7 +182,8 @@ fn active_edge_cost(
     c: f32,
 ) -> Priced
     requires { ⌜ (k < length (now ends) / 2) × Based (now poses) (now known) count ⌝ }
-    ensures { λ r. ⌜ r ≡ pricedFrom (only (isActive (lentLinks (was ends) (was edges) (was blocks) free) k) (priceAt (lentLinks (was ends) (was edges) (was blocks) free) (poseAt (was poses)) k) c) ⌝ }
+    ensures { λ r. ⌜ r ≡ pricedFrom (only (isActive (lentLinks (was ends) (was edges) (was blocks) free) k)
+        (priceAt (lentLinks (was ends) (was edges) (was blocks) free) (poseAt (was poses)) k) c) ⌝ }
 {
     let a = numbers::index_at(ends, k * 2);
     let b = numbers::index_at(ends, k * 2 + 1);

@@ -1,8 +1,7 @@
 -- Demand 3 on the definition's run: the bounds on the counts, and the cost. `Live` holds of every state that goes on, `Held` of every state that a run ends in.
 -- Assumes nothing.
 use mathlib.Core.Path.{_≡_, refl, sym, subst}
-use mathlib.Core.Bool.{Bool, true, false, _&&_}
-use mathlib.Core.List.{List, [], _∷_}
+use mathlib.Core.Bool.{Bool, true, false}
 use Prim.Native.Nat.{ℕ, suc, _+_, _-_, _≤_, _<_, zero-le}
 use native.Mathlib.Nat.{lt-irrefl}
 use native.Mathlib.Omega.{arith}
@@ -18,14 +17,12 @@ use Rattle.decisions.specs.Demand.{Held}
 use Rattle.decisions.specs.Machine.{stateOf}
 use Rattle.decisions.specs.declared.State.{State}
 use Rattle.decisions.specs.declared.Assembly.{Assembly}
-use Rattle.decisions.specs.declared.Assembly.the-variants as assembly
 use Rattle.decisions.specs.declared.Raw.{Raw}
-use Rattle.decisions.specs.declared.Raw.the-variants as raw
 use Rattle.decisions.specs.declared.Next.{Next}
 use Rattle.decisions.specs.declared.Next.the-variants as next
 use Rattle.numbers.proofs.Order.{lt-through}
 use Rattle.decisions.proofs.Levels.{At, raise-at, raise-ground, lower-at, lower-ground, first-at}
-use Rattle.decisions.proofs.Ways.{Both, Past, Cases, either, turn-cases}
+use Rattle.decisions.proofs.Ways.{Both, Past, Cases, turn-cases}
 
 -- a count that has not come to the largest u32
 one-more : (n : ℕ) → n < 4294967295 → oneMore n ≡ n + 1

@@ -1,7 +1,5 @@
 pub mod Copies
 pub mod Steps
 pub mod Telling
-pub mod Building
-pub mod Islands
 pub mod Jobs
 pub mod Closings

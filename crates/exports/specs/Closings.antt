@@ -1,7 +1,6 @@
 -- What the exported closing of a scan's loops gives back and writes, and a float's text: document 02, Wish 2. A slice of another length than named gets
 -- 4294967295 back, and nothing is changed. Definitions only.
 use Prim.Native.Nat.{ℕ}
-use mathlib.Core.Bool.{Bool, _&&_, _||_}
 use mathlib.Core.List.{List, _++_}
 use lib.Dec.{eqb}
 use lib.ListN.{length, drop}

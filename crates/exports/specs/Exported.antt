@@ -1,35 +1,28 @@
 -- What the exported runs give back and write: a run on either manifold, the decisions over a prepared list, an assembly alone. A slice of another length than
 -- named gets 4294967295 back, and nothing is changed. Definitions only.
-use Prim.Native.Nat.{ℕ, _*_}
+use Prim.Native.Nat.{ℕ}
 use mathlib.Core.Bool.{Bool, _&&_, _||_}
-use mathlib.Core.List.{List, [], _++_}
+use mathlib.Core.List.{List}
 use lib.Dec.{eqb, leb}
-use lib.ListN.{length, getD, drop}
+use lib.ListN.{length, getD}
 use lib.Ieee.{Float}
 use Rattle.numbers.specs.Notation.{if-then}
-use Rattle.numbers.specs.Walks.{every, Ended, done, stopped}
+use Rattle.numbers.specs.Walks.{every, Ended}
 use Rattle.numbers.specs.Refusals.{verdict}
 use Rattle.numbers.specs.declared.Verdict.{Verdict}
 use Rattle.numbers.specs.declared.Verdict.the-variants as verdict
-use Rattle.graph.specs.Graph.{linksOf, freeCount}
-use Rattle.graph.specs.Lent.{dofOf, poseAt, lentLinks}
-use Rattle.checks.specs.Input.{Input, lent, unset, graphOf}
-use Rattle.checks.specs.Table.{graphChecks}
+use Rattle.checks.specs.Input.{Input, lent}
 use Rattle.rows.specs.Tests.{settingRows}
 use Rattle.graph.specs.declared.Manifold.{Manifold}
 use Rattle.graph.specs.declared.Manifold.the-variants.{Se3, Gravity}
 use Rattle.rows.specs.declared.Settings.{Settings}
 use Rattle.rows.specs.declared.Room.{Room}
-use Rattle.checks.specs.declared.Checked.{Checked}
-use Rattle.checks.specs.declared.Checked.the-variants as checked
-use Rattle.retraction.specs.Retraction.{unitOf}
-use Rattle.profile.specs.Layout.{need}
-use Rattle.assembly.specs.Assembly.{assembledEnds}
 use Rattle.decisions.specs.Run.{begun}
 use Rattle.events.specs.Driven.{driven, eventsOf}
 use Rattle.decisions.specs.declared.Next.{Next}
 use Rattle.decisions.specs.declared.Next.the-variants as next
-use Rattle.sparse_pgo.specs.Parts.{answerOf, assemblyRow}
+use Rattle.normal_system.specs.NormalSystem.{assembling, systemOf}
+use Rattle.sparse_pgo.specs.Parts.{answerOf}
 use Rattle.sparse_pgo.specs.Optimize.{After, optimized}
 use Rattle.sparse_pgo.specs.declared.Answer.{Answer}
 use Rattle.sparse_pgo.specs.declared.Answer.the-variants as answer
@@ -117,31 +110,7 @@ decided set cost events prices a c =
     (decidedAs a c (decisionFrom set cost events prices (verdict (settingRows set))))
     (unfitNumber, a, c)
 
--- ---- pgo_assemble: rows 1 to 14 and 26, then 21; the work as found where refused
-
--- No f64 work is lent, and none is missed; an output as long as the poses is taken as given.
-abbrev pub assembling : Manifold → List Float → List ℕ → List Float → List ℕ → List Float → Input
-assembling m poses ends edges fixed w =
-    lent m poses ends edges fixed unset (record { work32 = length w; work64 = 18446744073709551615; out = length poses })
-
--- the system in the first n (n + 3) numbers: H and gradient, the rest of these +0
-abbrev pub systemOut : ℕ → List Float → Ended (List Float) → ℕ × List Float
-systemOut n w (done s) = (0, s ++ drop (need n) w)
-systemOut n w (stopped k why s) = (assemblyRow why, w)
-
--- of lent numbers that passed the checks, with the blocks of the poses
-abbrev pub builtOut : Manifold → List Float → List ℕ → List Float → List ℕ → ℕ → List Float → ℕ × List Float
-builtOut m poses ends edges blocks free w =
-    systemOut (dofOf m * free) w (assembledEnds m (dofOf m * free) (lentLinks ends edges blocks free) (poseAt poses) [])
-
-abbrev pub assembleFrom : Input → List Float → Checked → ℕ × List Float
-assembleFrom i w (checked.Turned r) = (r .number, w)
-assembleFrom i w (checked.Fit c) =
-    let n = dofOf (i .manifold) * freeCount (graphOf i) in
-    systemOut n w (assembledEnds (unitOf (i .manifold)) n (linksOf (graphOf i)) (poseAt (i .poses)) [])
-
-unfoldable pub systemOf : Input → List Float → ℕ × List Float
-systemOf i w = assembleFrom i w (graphChecks i .answer)
+-- ---- pgo_assemble
 
 -- 6 or 4 degrees of freedom; with 6 gravity is not looked at
 abbrev pub manifoldOf : ℕ → List Float → Manifold

@@ -4,8 +4,8 @@ use Prim.Native.Nat.{ℕ}
 use mathlib.Core.Bool.{_&&_}
 use mathlib.Core.List.{List, [], _∷_}
 use lib.Dec.{eqb}
-use lib.ListN.{length, getD}
-use lib.Ieee.{Float, nan}
+use lib.ListN.{length}
+use lib.Ieee.{Float}
 use Rattle.numbers.specs.Notation.{if-then, numberAt}
 use Rattle.rotations.specs.Rotation.{vec, product, inverse}
 use Rattle.rotations.specs.FromMatrix.{quatOfMatrix}

@@ -1,7 +1,7 @@
 // The functions that a host program links: slices cross as pointer and length, numbers as themselves. A slice of another length than named gets
 // 4294967295 back, and nothing is changed; elsewhere 0 means done.
 ghost use mathlib.Core.Path.{_≡_};
-ghost use Prim.Native.Nat.{_+_, _*_, _<_, _≤_};
+ghost use Prim.Native.Nat.{_+_, _*_, _<_};
 ghost use lib.Dec.{eqb};
 ghost use lib.ListN.{length};
 ghost use Rattle.numbers.specs.Notation.{num, if-then, numberAt, was, became};
@@ -9,10 +9,7 @@ ghost use Rattle.rounding.specs.Rounding.{narrowed};
 ghost use Rattle.roots.specs.Roots.{root32, root64};
 ghost use Rattle.numbers.specs.Refusals.{verdict};
 ghost use Rattle.rotations.specs.Rotation.{vec};
-ghost use Rattle.graph.specs.Lent.{dofOf};
 ghost use Rattle.rows.specs.Tests.{settingRows};
-ghost use Rattle.profile.specs.Layout.{need};
-ghost use Rattle.decisions.specs.Run.{iterations};
 ghost use Rattle.job.specs.Format.{space, jobOf};
 ghost use Rattle.scans.specs.Scans.{scan};
 ghost use Rattle.exports.specs.Closings.{closedNine, scanLists, gravityOf, closedTold, loopsOut, textOut};
@@ -20,8 +17,7 @@ ghost use Rattle.exports.specs.Jobs.{bits, readOut, writeOut};
 ghost use Rattle.exports.specs.Layers.{firstSix, matrixFrom, transformFrom, three};
 ghost use Rattle.exports.specs.Layers.{quaternionOut, productOut, inverseOut, logOut, expOut, retractOut, retractGravityOut, residualOut, solveOut};
 ghost use Rattle.exports.specs.Exported.{settings, told, lists, fitsRun, runOut, known, decisionFrom, fitsDecide, decided};
-ghost use Rattle.exports.specs.Exported.{assembling, builtOut, systemOf, assembleOut};
-use checks::Checked;
+ghost use Rattle.exports.specs.Exported.{assembleOut};
 use decisions::Next;
 use exp_log::Moved;
 use graph::Manifold;
@@ -36,7 +32,6 @@ use rotations::QuatF32;
 use rotations::Transform;
 use rotations::Vec3;
 use rotations::Vec3F32;
-use rows::Room;
 use rows::Settings;
 use solve::Solved;
 use sparse_pgo::Answer;
@@ -477,7 +472,8 @@ pub extern "C" fn pgo_decide(
     answer: &mut [u32],
     costs: &mut [f32],
 ) -> u32
-    ensures { λ r. ⌜ (r, became answer, became costs) ≡ decided (settings limit tolerance (num 0) damping) cost (was events) (was prices) (was answer) (was costs) ⌝ }
+    ensures { λ r. ⌜ (r, became answer, became costs) ≡ decided (settings limit tolerance (num 0) damping) cost (was events) (was prices) (was answer)
+        (was costs) ⌝ }
 {
     if !decide_fits(answer.len(), costs.len(), events, prices) {
         return UNFIT;
@@ -495,148 +491,6 @@ pub extern "C" fn pgo_decide(
 }
 
 // ---- an assembly alone
-
-// The system in all of the work, which stays as found where an edge can't be assembled. `system` is scratch.
-fn build_over(
-    m: Manifold,
-    poses: &[f64],
-    ends: &[u32],
-    edges: &[f32],
-    blocks: &[u32; 256],
-    free: u32,
-    system: &mut [f32],
-    work: &mut [f32],
-) -> u32
-    requires { ⌜ (length (now work) ≡ need (dofOf m * free)) × (length (now work) ≤ length (now system)) ⌝ }
-    ensures { λ r. ⌜ (r, became work) ≡ builtOut m (was poses) (was ends) (was edges) (was blocks) free (was work) ⌝ }
-{
-    let count = work.len();
-    let made = assembly::build_normal_system_with_mapping(
-        &mut system[..count],
-        m,
-        poses,
-        ends,
-        edges,
-        blocks,
-        free,
-    );
-    let row = telling::built_number(made);
-    if row != 0 {
-        return row;
-    }
-    slices::copy32(system, work);
-    0
-}
-
-// Scratch is cleared before it is used, and that takes time: so there are three sizes. The first two are those of an evening's fifty views, one of them fixed.
-
-// Fifty views with gravity: 196 (196 + 3).
-fn build_small(
-    m: Manifold,
-    poses: &[f64],
-    ends: &[u32],
-    edges: &[f32],
-    blocks: &[u32; 256],
-    free: u32,
-    work: &mut [f32],
-) -> u32
-    requires { ⌜ (length (now work) ≡ need (dofOf m * free)) × (length (now work) ≤ 39004) ⌝ }
-    ensures { λ r. ⌜ (r, became work) ≡ builtOut m (was poses) (was ends) (was edges) (was blocks) free (was work) ⌝ }
-{
-    let mut system = [0.0f32; 39004];
-    build_over(m, poses, ends, edges, blocks, free, &mut system, work)
-}
-
-// Fifty views: 294 (294 + 3).
-fn build_middle(
-    m: Manifold,
-    poses: &[f64],
-    ends: &[u32],
-    edges: &[f32],
-    blocks: &[u32; 256],
-    free: u32,
-    work: &mut [f32],
-) -> u32
-    requires { ⌜ (length (now work) ≡ need (dofOf m * free)) × (length (now work) ≤ 87318) ⌝ }
-    ensures { λ r. ⌜ (r, became work) ≡ builtOut m (was poses) (was ends) (was edges) (was blocks) free (was work) ⌝ }
-{
-    let mut system = [0.0f32; 87318];
-    build_over(m, poses, ends, edges, blocks, free, &mut system, work)
-}
-
-// The most, 64 free poses: 384 (384 + 3).
-fn build_large(
-    m: Manifold,
-    poses: &[f64],
-    ends: &[u32],
-    edges: &[f32],
-    blocks: &[u32; 256],
-    free: u32,
-    work: &mut [f32],
-) -> u32
-    requires { ⌜ (length (now work) ≡ need (dofOf m * free)) × (length (now work) ≤ 148608) ⌝ }
-    ensures { λ r. ⌜ (r, became work) ≡ builtOut m (was poses) (was ends) (was edges) (was blocks) free (was work) ⌝ }
-{
-    let mut system = [0.0f32; 148608];
-    build_over(m, poses, ends, edges, blocks, free, &mut system, work)
-}
-
-fn build(
-    m: Manifold,
-    poses: &[f64],
-    ends: &[u32],
-    edges: &[f32],
-    blocks: &[u32; 256],
-    free: u32,
-    work: &mut [f32],
-) -> u32
-    requires { ⌜ (length (now work) ≡ need (dofOf m * free)) × (length (now work) ≤ 148608) ⌝ }
-    ensures { λ r. ⌜ (r, became work) ≡ builtOut m (was poses) (was ends) (was edges) (was blocks) free (was work) ⌝ }
-{
-    if work.len() <= 39004 {
-        return build_small(m, poses, ends, edges, blocks, free, work);
-    }
-    if work.len() <= 87318 {
-        return build_middle(m, poses, ends, edges, blocks, free, work);
-    }
-    build_large(m, poses, ends, edges, blocks, free, work)
-}
-
-fn assemble(
-    m: Manifold,
-    poses: &[f64],
-    ends: &[u32],
-    edges: &[f32],
-    fixed: &[u32],
-    work: &mut [f32],
-) -> u32
-    ensures { λ r. ⌜ (r, became work) ≡ systemOf (assembling m (was poses) (was ends) (was edges) (was fixed) (was work)) (was work) ⌝ }
-{
-    let room = Room {
-        work32: work.len(),
-        work64: 18446744073709551615,
-        out: poses.len(),
-    };
-    let checks = checks::validate_pose_graph(m, poses, ends, edges, fixed, room);
-    let answer = checks.answer;
-    let blocks = checks.blocks;
-    match answer {
-        Checked::Turned(r) => r.number,
-        Checked::Fit(c) => {
-            let n = graph::dof(m) * (c.free as usize);
-            let count = n * (n + 3);
-            build(
-                retraction::unit_manifold(m),
-                poses,
-                ends,
-                edges,
-                &blocks,
-                c.free,
-                &mut work[..count],
-            )
-        }
-    }
-}
 
 fn manifold_of(dof: u32, g: Vec3) -> Manifold
     ensures { λ r. ⌜ r ≡ if-then (eqb dof 6) Manifold.Se3 (Manifold.Gravity g) ⌝ }
@@ -664,7 +518,7 @@ pub extern "C" fn pgo_assemble(
         return UNFIT;
     }
     let m = manifold_of(dof, vec_from(gravity));
-    assemble(m, poses, ends, edges, fixed, work)
+    normal_system::assemble(m, poses, ends, edges, fixed, work)
 }
 
 // ---- jobs

@@ -176,7 +176,8 @@ fn columns(
     code: &mut u32,
 ) -> [[f32; 6]; 6]
     requires { ⌜ (x < 256) × (26624 ≤ length (now known)) ⌝ }
-    ensures { λ r. ⌜ (became code ≡ codeOf (jacobianBy (dofOf m) l end shift (cellsOf (was known) x) .0)) × (r ≡ jacobianBy (dofOf m) l end shift (cellsOf (was known) x) .1) ⌝ }
+    ensures { λ r. ⌜ (became code ≡ codeOf (jacobianBy (dofOf m) l end shift (cellsOf (was known) x) .0))
+        × (r ≡ jacobianBy (dofOf m) l end shift (cellsOf (was known) x) .1) ⌝ }
 {
     let mut j = [[0.0f32; 6]; 6];
     let dof = graph::dof(m);

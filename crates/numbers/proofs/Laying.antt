@@ -1,17 +1,16 @@
 -- Values laid one after another into a list, from a place on: the laws of the loops that fill, copy and store. Assumes nothing.
-use mathlib.Core.Path.{_≡_, refl, sym, ap, subst, _∙_}
+use mathlib.Core.Path.{_≡_, refl, sym, subst, _∙_}
 use mathlib.Core.Logic.{_⊎_, inl, inr, ⊎-elim}
 use mathlib.Core.Bool.{Bool, true, false}
-use mathlib.Core.List.{List, _++_, append-nil}
-use Prim.Native.Nat.{ℕ, _+_, _-_, _<_, _≤_, min}
-use native.Mathlib.Nat.{le-of-eq, ne-of-lt, ne-of-gt, zero-add, le-min, min-le-left, min-eq-right, sub-add-min-cancel}
+use mathlib.Core.List.{List}
+use Prim.Native.Nat.{ℕ, _+_, _<_, _≤_}
+use native.Mathlib.Nat.{ne-of-lt, ne-of-gt, zero-add}
 use native.Mathlib.Omega.{arith}
 use borrow.Author.Count.{below-more}
 use borrow.Author.Tests.{ltb-true, ltb-false}
 use lib.Dec.{ltb}
-use lib.ListN.{length, getD, set, take, drop, replicate, length-append, length-take, length-drop, length-set, length-replicate, getD-replicate}
-use lib.ListN.{List·getD-append, drop-of-length-le}
-use lib.Seq.{ext-getD, getD-set-same, getD-set-other, getD-take, getD-drop, getD-append-add, take-length}
+use lib.ListN.{length, getD, set, replicate, length-set, length-replicate, getD-replicate}
+use lib.Seq.{ext-getD, getD-set-same, getD-set-other}
 use Rattle.numbers.specs.Notation.{if-then}
 use Rattle.numbers.specs.Walks.{table}
 use Rattle.numbers.proofs.Tables.{is-table}

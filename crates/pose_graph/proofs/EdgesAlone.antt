@@ -13,7 +13,7 @@ use Rattle.sparse_pgo.specs.declared.Joined.{Joined}
 use Rattle.sparse_pgo.specs.declared.Answer.{Answer}
 use Rattle.sparse_pgo.specs.declared.Answer.the-variants as answer
 use Rattle.printable.specs.Measures.{withSquares, edgeResidual, squaresUpTo, poseGraphCost, lastResidual, measuresOf}
-use Rattle.pose_graph.specs.Closing.{Closing, resultFor, closedAs, closedRun}
+use Rattle.pose_graph.specs.Closing.{resultFor, closedAs, closedRun}
 use Rattle.pose_graph.specs.declared.PgoResult.{PgoResult}
 use Rattle.pose_graph.specs.declared.Closed.the-variants as closed
 

@@ -24,13 +24,11 @@ use Rattle.rows.specs.Tests.{badGravity, unfit, tooMany}
 use Rattle.graph.specs.declared.Manifold.{Manifold}
 use Rattle.rows.specs.declared.Settings.{Settings}
 use Rattle.rows.specs.declared.Room.{Room}
-use Rattle.sparse_pgo.specs.Optimize.{After, optimized}
-use Rattle.sparse_pgo.specs.declared.Answer.the-variants as answer
 use Rattle.sparse_pgo.proofs.Demands.{demand-one-before}
 use Rattle.scans.specs.Scans.{Scan, edgeCount, endsTo, edgesTo, graphTo, builtGraph}
 use Rattle.scans.specs.ScanRows.{unfitScan, scanRows}
 use Rattle.scans.proofs.Built.{ends-long, edges-long}
-use Rattle.pose_graph.specs.Closing.{Closing, closedAs, closedRun}
+use Rattle.pose_graph.specs.Closing.{closedRun}
 use Rattle.pose_graph.specs.declared.Closed.the-variants as closed
 
 -- ---- rows 1 to 3, the third of which has its fault

@@ -1,6 +1,6 @@
 -- What closing a scan's loops promises, for every scan and everything lent: 33 and 34 exactly where document 02 says so, before everything else and changing
 -- nothing; else the run of the built graph; usable exactly if every test holds; no verdict without the last edge's residual. Assumes nothing.
-use mathlib.Core.Path.{_≡_, refl, sym, ap, subst, _∙_}
+use mathlib.Core.Path.{_≡_, refl, sym, ap, _∙_}
 use mathlib.Core.Bool.{Bool, true, false, _||_}
 use mathlib.Core.List.{List, [], _∷_}
 use Prim.Native.Nat.{ℕ, _-_, _/_, _<_}
@@ -8,7 +8,7 @@ use native.Mathlib.Omega.{arith}
 use lib.Dec.{T, eqb}
 use lib.ListN.{length, drop}
 use lib.Ieee.{Float, binary32, fits}
-use borrow.Author.Tests.{eqb-true, eqb-false}
+use borrow.Author.Tests.{eqb-true}
 use Rattle.numbers.specs.Refusals.{refusal, Row, row, placed, verdict}
 use Rattle.numbers.specs.Walks.{some}
 use Rattle.numbers.specs.declared.Refusal.{Refusal}
@@ -37,7 +37,6 @@ use Rattle.scans.specs.ScanRows.{unfitScan, isAbsent, loopFaults, scanRows}
 use Rattle.pose_graph.specs.Closing.{Closing, resultFor, roomFor, closedAs, closedRun, closedAfter, loopsClosed}
 use Rattle.pose_graph.specs.declared.PgoConfig.{PgoConfig}
 use Rattle.pose_graph.specs.declared.PgoResult.{PgoResult}
-use Rattle.pose_graph.specs.declared.Closed.{Closed}
 use Rattle.pose_graph.specs.declared.Closed.the-variants as closed
 
 -- pose 0 alone is fixed

@@ -2,7 +2,6 @@
 -- Wish 2). Of any edges and any poses. Definitions only.
 use Prim.Native.Nat.{ℕ, zero, suc, _-_}
 use mathlib.Core.Bool.{Bool, true, not}
-use mathlib.Core.List.{List}
 use lib.ListN.{getD}
 use lib.Ieee.{Float, binary64, nan, lt}
 use Rattle.numbers.specs.Notation.{_⊕_, _⊗_, num, ratio, if-then}

@@ -10,16 +10,14 @@ use lib.IntN.{ℤ, pos, negsuc}
 use lib.Dec.{T, eqb, eqb→eq, eqb·suc-zero}
 use lib.Pow.{pow-pos}
 use lib.Ieee.{Float, nan, inf, fin, binary32, up, down, unlike, round, sum, add, sub, mul, div, neg, eq, fits, isNan, ofBits, toBits}
-use lib.Ieee.Bits.{ofBits-toBits}
 use lib.Ieee.Fits.{up-pos, down-pos}
-use lib.Ieee.Positive.{positive}
 use lib.Ieee.Scale.{finite, round-same}
 use Rattle.numbers.specs.Notation.{_⊟_, _⊠_, _⧄_, num}
 use Rattle.rounding.specs.Rounding.{rounded}
 use Rattle.profile.specs.Starts.{plusZero, minusZero}
 use Rattle.numbers.proofs.Tests.{and-first}
 use Rattle.rounding.proofs.Own.{rounded-own}
-use Rattle.roots.proofs.RootServes.{zero-is, above-zero}
+use Rattle.roots.proofs.RootServes.{zero-is}
 
 abbrev pub Fits : Float → Type 0
 Fits x = T (fits binary32 x)

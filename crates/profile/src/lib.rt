@@ -1,7 +1,7 @@
 // The profile of a system of n unknowns in a solve's work: whether the work has room for it, where each row of H starts, and where a sum of products of two
 // such rows may start. Of any work and any n.
 ghost use mathlib.Core.Path.{_≡_};
-ghost use Prim.Native.Nat.{ℕ, _*_, _≤_};
+ghost use Prim.Native.Nat.{_*_, _≤_};
 ghost use lib.Dec.{leb};
 ghost use lib.ListN.{length};
 ghost use Rattle.numbers.specs.Notation.{was};

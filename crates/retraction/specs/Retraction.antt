@@ -1,10 +1,8 @@
 -- Retraction on each manifold: document 01, "Graph, residual, assembly", last paragraph. Any non-finite result fails. Definitions only.
 -- A step δ of a pose is a list whose first DOF numbers count.
-use Prim.Native.Nat.{ℕ}
 use mathlib.Core.Bool.{_&&_}
 use mathlib.Core.List.{List}
-use lib.ListN.{getD}
-use lib.Ieee.{Float, nan, neg}
+use lib.Ieee.{Float, neg}
 use lib.Ieee.Scale.{finite}
 use Rattle.numbers.specs.Notation.{if-then, numberAt}
 use Rattle.numbers.specs.Walks.{every}

@@ -1,6 +1,7 @@
 // Rotation arithmetic of document 01: vectors, matrices and quaternions in f64, transforms in f32. (exp and log: the crate exp_log.)
 ghost use mathlib.Core.Path.{_≡_};
-ghost use Rattle.rotations.specs.Rotation.{dot, cross, plus, minus, times, matrixOf, turned, transpose, matProduct, conjugate, quatProduct, over, lengthOf, unitVec};
+ghost use Rattle.rotations.specs.Rotation.{dot, cross, plus, minus, times, matrixOf, turned, transpose, matProduct, conjugate, quatProduct, over};
+ghost use Rattle.rotations.specs.Rotation.{lengthOf, unitVec};
 ghost use Rattle.rotations.specs.Rotation.{wide, finished, roundedVec, roundedQuat, product, inverse};
 ghost use Rattle.rotations.specs.FromMatrix.{halvedBy, quatOfMatrix};
 

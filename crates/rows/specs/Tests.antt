@@ -1,5 +1,5 @@
 -- What the rows of the table of refusals ask: document 01, "What is turned down, and in what order"; and its rows 15 to 19 whole. Definitions only.
-use Prim.Native.Nat.{ℕ, _+_, _*_, _%_}
+use Prim.Native.Nat.{ℕ, _*_, _%_}
 use mathlib.Core.Bool.{Bool, false, not, _||_}
 use mathlib.Core.List.{List, [], _∷_}
 use lib.ListN.{getD}

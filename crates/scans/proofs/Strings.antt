@@ -1,14 +1,13 @@
 -- Rows of one width, strung one after another: their length, an element by the number of its row, and an array that is filled with them from the start.
 -- Assumes nothing.
-use mathlib.Core.Path.{_≡_, sym, ap, ap₂, subst, _∙_}
-use mathlib.Core.Logic.{⊎-elim}
+use mathlib.Core.Path.{_≡_, sym, ap, ap₂, _∙_}
 use mathlib.Core.List.{List, [], _∷_, _++_}
 use Prim.Native.Nat.{ℕ, zero, suc, _+_, _-_, _*_, _<_, _≤_}
-use native.Mathlib.Nat.{zero-add, suc-add, zero-mul, suc-mul, mul-le-mul-right, not-suc-le-zero, le-of-suc-le-suc, eq-or-lt-of-le}
+use native.Mathlib.Nat.{zero-add, suc-add, zero-mul, suc-mul}
 use native.Mathlib.Numerals.{add-one}
 use native.Mathlib.Omega.{arith}
-use lib.ListN.{length, getD, take, drop, set, replicate, length-append, length-replicate, length-set, List·getD-append}
-use lib.Seq.{take-at, drop-append-add, getD-append-add, sets-eq, take-all, paste, paste-zero, paste-suc}
+use lib.ListN.{length, getD, take, drop, set, replicate, length-replicate, length-set}
+use lib.Seq.{take-at, drop-append-add, sets-eq, take-all, paste, paste-zero, paste-suc}
 use Rattle.numbers.specs.Walks.{strung}
 use Rattle.numbers.proofs.Strung.{strung-long}
 

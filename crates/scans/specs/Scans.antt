@@ -1,7 +1,7 @@
 -- A scan, keyframes in order and loops that were verified between two of them, and the graph that is built of it (pose_graph.rs; document 02, Wish 2): chain
 -- edges of weight 1 from each keyframe to the next, then the loop edges; pose 0 is fixed. Definitions only.
 use Prim.Native.Nat.{ℕ, zero, suc, _+_, _-_, _*_, _/_}
-use mathlib.Core.List.{List, [], _∷_, _++_}
+use mathlib.Core.List.{List, [], _∷_}
 use lib.Dec.{eqb, ltb}
 use lib.ListN.{length, getD}
 use lib.Ieee.{Float}

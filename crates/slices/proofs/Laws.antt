@@ -53,6 +53,10 @@ module _ {A : Type 0} (d : A) where
 pub copied-whole : {A : Type 0} (m l : List A) → length l ≡ length m → copied m l ≡ m
 copied-whole m l e = rw (e, take-length m) (ap (λ x. m ++ x) (drop-of-length-le l (le-of-eq e)) ∙ append-nil m)
 
+-- over a list that is no longer, a copy is the front of the other
+pub copied-front : {A : Type 0} (m l : List A) → length l ≤ length m → copied m l ≡ take (length l) m
+copied-front {A} m l h = ap (λ (z : List A). take (length l) m ++ z) (drop-of-length-le l h) ∙ append-nil (take (length l) m)
+
 -- the front of a list cleared, its rest as it was
 pub cleared-front : (k : ℕ) (w : List Float) → k ≤ length w → replicate (length (take k w)) (num 0) ++ drop k w ≡ zeroed k w
 cleared-front k w h = ap (λ (n : ℕ). replicate n (num 0) ++ drop k w) (length-take k w ∙ min-eq-left h)

@@ -13,7 +13,7 @@ use lib.Dec.{eqb·suc-zero}
 use lib.Ieee.{Float, nan, inf, fin, binary32, up, down, lt, div}
 use lib.Ieee.Positive.{positive}
 use lib.Ieee.Bits.{ofBits-fits}
-use lib.Ieee.Fits.{add-fits, up-pos, down-pos}
+use lib.Ieee.Fits.{add-fits, up-pos}
 use lib.Ieee.Scale.{finite}
 use Rattle.numbers.specs.Notation.{_⊞_, _⊠_, _⧄_, num}
 use Rattle.roots.specs.Roots.{root32}

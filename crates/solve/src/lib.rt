@@ -2,11 +2,11 @@
 // What is +0 by structure, left of a row's first entry that is not +0, is skipped: the bits are those of the plain rule all the same.
 ghost use mathlib.Core.Path.{_≡_};
 ghost use mathlib.Core.Bool.{true, cond};
-ghost use Prim.Native.Nat.{ℕ, _+_, _-_, _*_, _<_, _≤_};
+ghost use Prim.Native.Nat.{_+_, _-_, _*_, _<_, _≤_};
 ghost use lib.ListN.{length, getD};
 ghost use lib.Ieee.{nan};
 ghost use lib.Ieee.Scale.{finite};
-ghost use Rattle.numbers.specs.Notation.{num, was, became};
+ghost use Rattle.numbers.specs.Notation.{was, became};
 ghost use Rattle.numbers.specs.Walks.{every};
 ghost use Rattle.solve.specs.Rule as R;
 ghost use Rattle.profile.specs.Layout.{need};

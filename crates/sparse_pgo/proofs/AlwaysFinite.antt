@@ -42,7 +42,7 @@ use Rattle.sparse_pgo.specs.Parts.{Parts, step, noStep, numerics}
 use Rattle.trials.specs.Trials.{normOf}
 use Rattle.sparse_pgo.specs.Numerics.{partsOn}
 use Rattle.sparse_pgo.proofs.Looping.{not-above}
-use Rattle.sparse_pgo.proofs.Slots.{links-same}
+use Rattle.checks.proofs.Slots.{links-same}
 use Rattle.sparse_pgo.proofs.Demands.{runParts}
 
 -- of the system of n unknowns at the poses x, and of its step at damping d

@@ -34,7 +34,7 @@ use Rattle.sparse_pgo.specs.Numerics.{partsOn, partsOf}
 use Rattle.slices.specs.Slices.{zeroed}
 use Rattle.sparse_pgo.specs.Optimize.{afterChecks, given, ran, optimized}
 use Rattle.sparse_pgo.specs.forms.Turns.{partsIn, linksIn, Lent, Startable, Begun}
-use Rattle.sparse_pgo.proofs.Slots.{links-same}
+use Rattle.checks.proofs.Slots.{links-same}
 
 -- ---- an input that passes the checks, with what they handed on and its degrees of freedom
 

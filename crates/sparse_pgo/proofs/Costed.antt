@@ -1,7 +1,7 @@
 -- What a joined run says of its costs is so: the first is that of the poses given, the last that of the poses given back; so every active edge has a
 -- residual at both. For a first damping that is an f32. Assumes nothing.
-use mathlib.Core.Path.{_≡_, refl, sym, ap, subst, _∙_}
-use mathlib.Core.Bool.{Bool, true, false, not, _&&_, _||_, or-true}
+use mathlib.Core.Path.{_≡_, refl, ap, subst, _∙_}
+use mathlib.Core.Bool.{Bool, true, false, or-true}
 use mathlib.Core.List.{List}
 use Prim.Native.Nat.{ℕ, _<_}
 use native.Mathlib.Omega.{arith}
@@ -9,21 +9,19 @@ use lib.Dec.{T, eqb}
 use lib.Ieee.{Float, binary32, fits}
 use borrow.Author.Tests.{eq-eqb}
 use Rattle.numbers.specs.Notation.{if-then}
-use Rattle.numbers.specs.Walks.{Ended, done, stopped, some}
+use Rattle.numbers.specs.Walks.{Ended, done, stopped}
 use Rattle.numbers.proofs.Choices.{taken}
 use Rattle.numbers.proofs.Walking.{some-hit}
-use Rattle.rotations.specs.declared.Pose.{Pose}
-use Rattle.graph.specs.Graph.{Graph, touches, isFree, blockOf, slotAt, linksOf, isBlock, isActive}
+use Rattle.graph.specs.Graph.{Graph, touches, isFree, slotAt, linksOf, isBlock, isActive}
 use Rattle.graph.specs.Lent.{poseAt}
 use Rattle.checks.specs.Input.{Input, graphOf}
 use Rattle.checks.specs.Table.{checks}
 use Rattle.checks.specs.declared.Counts.{Counts}
 use Rattle.checks.specs.declared.Checked.{Checked}
 use Rattle.checks.specs.declared.Checked.the-variants as checked
-use Rattle.graph.specs.declared.Edge.{Edge}
 use Rattle.rows.specs.declared.Settings.{Settings}
 use Rattle.graph.specs.declared.Slot.{Slot}
-use Rattle.graph.specs.declared.Slot.the-variants.{Block, Fixed}
+use Rattle.graph.specs.declared.Slot.the-variants.{Fixed}
 use Rattle.checks.proofs.Passed.{PassedSettings, fit}
 use Rattle.residual.specs.Residuals.{hasResidual, residualOf}
 use Rattle.costs.proofs.HadCost.{cost-residuals}
@@ -35,12 +33,11 @@ use Rattle.decisions.specs.declared.Raw.the-variants as raw
 use Rattle.decisions.proofs.Holding.{played-holds}
 use Rattle.sparse_pgo.specs.declared.Joined.{Joined}
 use Rattle.trials.specs.Trials.{pricedAs}
-use Rattle.sparse_pgo.specs.declared.Answer.{Answer}
 use Rattle.sparse_pgo.specs.declared.Answer.the-variants as answer
 use Rattle.sparse_pgo.specs.Parts.{Parts, Found, step, noStep, trialAs, stepAs, attemptAs, stepTo, movedTo, numerics}
 use Rattle.sparse_pgo.specs.Parts.{joinedOf, answerOf, wholeFrom, whole}
 use Rattle.sparse_pgo.specs.Numerics.{partsOn}
-use Rattle.sparse_pgo.specs.Optimize.{After, afterChecks, ran, optimized}
+use Rattle.sparse_pgo.specs.Optimize.{afterChecks, ran, optimized}
 use Rattle.sparse_pgo.proofs.Looping.{not-above}
 use Rattle.sparse_pgo.proofs.Demands.{runParts, answered, come-out}
 

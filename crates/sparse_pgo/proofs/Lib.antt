@@ -4,7 +4,6 @@ pub mod Assembling
 pub mod Turning
 pub mod Looping
 pub mod Running
-pub mod Slots
 pub mod Border
 pub mod Demands
 pub mod AlwaysFinite

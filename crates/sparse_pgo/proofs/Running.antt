@@ -23,9 +23,7 @@ use Rattle.decisions.specs.Run.{iterations}
 use Rattle.decisions.specs.Machine.{stateOf, played}
 use Rattle.decisions.specs.Demand.{Held}
 use Rattle.decisions.specs.declared.State.{State}
-use Rattle.decisions.specs.declared.Why.{Why}
 use Rattle.decisions.specs.declared.End.{End}
-use Rattle.decisions.specs.declared.End.the-variants as end
 use Rattle.decisions.specs.declared.Next.{Next}
 use Rattle.decisions.specs.declared.Next.the-variants as next
 use Rattle.decisions.proofs.Machines.{played-held}

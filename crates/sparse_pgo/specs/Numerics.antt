@@ -16,7 +16,7 @@ use Rattle.solve.specs.Rule.{solvable}
 use Rattle.profile.specs.Layout.{hessianOf}
 use Rattle.solve.specs.Work.{gradientOf, stepIn}
 use Rattle.trials.specs.Trials.{normOf, stepTolerance, moves, movedNumbers}
-use Rattle.sparse_pgo.specs.Parts.{Parts, Found, step, noStep}
+use Rattle.sparse_pgo.specs.Parts.{Parts, step, noStep}
 
 -- ---- the parts: of a manifold (gravity of unit length), n unknowns, so many poses, the settings, and the edges
 

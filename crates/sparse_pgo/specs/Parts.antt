@@ -8,6 +8,7 @@ use Rattle.numbers.specs.Walks.{Ended, done, stopped}
 use Rattle.numbers.specs.Refusals.{refusal}
 use Rattle.numbers.specs.declared.Failure.{Failure}
 use Rattle.numbers.specs.declared.Failure.the-variants.{Numerical}
+use Rattle.assembly.specs.Assembly.{assemblyRow}
 use Rattle.rows.specs.declared.Settings.{Settings}
 use Rattle.decisions.specs.Run.{iterations}
 use Rattle.decisions.specs.Machine.{Numerics, Play, played}
@@ -45,9 +46,6 @@ pub record Parts (X S D : Type 0) : Type 0 where
 -- the rows of the refusals that a run can meet
 abbrev pub costRow : Failure → ℕ
 costRow Numerical = 20
-
-abbrev pub assemblyRow : Failure → ℕ
-assemblyRow Numerical = 21
 
 module _ {X S D : Type 0} (p : Parts X S D) where
   -- ---- what the assembly comes to

@@ -4,7 +4,7 @@ use mathlib.Core.Bool.{false}
 use mathlib.Core.List.{List, [], _∷_, map}
 use Prim.Native.Nat.{ℕ}
 use lib.IntN.{negsuc}
-use lib.Ieee.{Float, fin, binary32, ofBits, toBits, add, sub, mul, div, neg, lt, le}
+use lib.Ieee.{fin, binary32, ofBits, toBits, add, sub, mul, div, neg, lt, le}
 use Rattle.numbers.specs.Notation.{num, ratio, ratio32, if-then}
 use Rattle.rounding.specs.Rounding.{rounded}
 use Rattle.roots.specs.Roots.{rooted}

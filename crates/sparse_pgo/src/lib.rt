@@ -255,7 +255,8 @@ fn begun(
 ) -> Answer
     requires { ⌜ Lent job (now w32) (now w64) × Startable job ⌝ }
     requires { ⌜ (length (now poses) ≡ job .poses * 12) × (length (now out) ≡ length (now poses)) ⌝ }
-    ensures { λ r. ⌜ Begun job (linksIn job (was ends) (was edges) (was blocks)) (was poses) (was w32) (was w64) (was out) r (became w32) (became w64) (became out) ⌝ }
+    ensures { λ r. ⌜ Begun job (linksIn job (was ends) (was edges) (was blocks)) (was poses) (was w32) (was w64) (was out) r (became w32) (became w64)
+        (became out) ⌝ }
 {
     let half = job.poses * 12;
     slices::copy64(poses, &mut w64[..half]);
@@ -280,7 +281,8 @@ pub fn sparse_pose_graph_optimize(
     work64: &mut [f64],
     out: &mut [f64],
 ) -> Answer
-    ensures { λ r. ⌜ record { answer = r; work32 = became work32; work64 = became work64; out = became out } ≡ optimizedOn manifold (was poses) (was ends) (was edges) (was fixed) settings (was work32) (was work64) (was out) ⌝ }
+    ensures { λ r. ⌜ record { answer = r; work32 = became work32; work64 = became work64; out = became out }
+        ≡ optimizedOn manifold (was poses) (was ends) (was edges) (was fixed) settings (was work32) (was work64) (was out) ⌝ }
 {
     let room = Room {
         work32: work32.len(),
@@ -336,7 +338,8 @@ pub fn optimize(
     work64: &mut [f64],
     out: &mut [f64],
 ) -> Answer
-    ensures { λ r. ⌜ record { answer = r; work32 = became work32; work64 = became work64; out = became out } ≡ optimizedOn Manifold.Se3 (was poses) (was ends) (was edges) (was fixed) settings (was work32) (was work64) (was out) ⌝ }
+    ensures { λ r. ⌜ record { answer = r; work32 = became work32; work64 = became work64; out = became out }
+        ≡ optimizedOn Manifold.Se3 (was poses) (was ends) (was edges) (was fixed) settings (was work32) (was work64) (was out) ⌝ }
 {
     sparse_pose_graph_optimize(
         Manifold::Se3,
@@ -363,7 +366,8 @@ pub fn optimize_with_gravity(
     work64: &mut [f64],
     out: &mut [f64],
 ) -> Answer
-    ensures { λ r. ⌜ record { answer = r; work32 = became work32; work64 = became work64; out = became out } ≡ optimizedOn (Manifold.Gravity gravity) (was poses) (was ends) (was edges) (was fixed) settings (was work32) (was work64) (was out) ⌝ }
+    ensures { λ r. ⌜ record { answer = r; work32 = became work32; work64 = became work64; out = became out }
+        ≡ optimizedOn (Manifold.Gravity gravity) (was poses) (was ends) (was edges) (was fixed) settings (was work32) (was work64) (was out) ⌝ }
 {
     sparse_pose_graph_optimize(
         Manifold::Gravity(gravity),

@@ -8,11 +8,8 @@ use Rattle.numbers.specs.Notation.{if-then}
 use Rattle.numbers.specs.declared.Refusal.{Refusal}
 use Rattle.rotations.specs.declared.QuatF32.{QuatF32}
 use Rattle.rotations.specs.declared.Transform.{Transform}
-use Rattle.assembly.specs.declared.Assembled.{Assembled}
-use Rattle.assembly.specs.declared.Assembled.the-variants as assembled
 use Rattle.decisions.specs.declared.Why.{Why}
 use Rattle.decisions.specs.declared.Why.the-variants as why
-use Rattle.sparse_pgo.specs.Parts.{assemblyRow}
 use Rattle.sparse_pgo.specs.declared.Joined.{Joined}
 use Rattle.sparse_pgo.specs.declared.Answer.{Answer}
 use Rattle.sparse_pgo.specs.declared.Answer.the-variants as answer
@@ -36,12 +33,6 @@ transformNumbers a = a.q .x ∷ a.q .y ∷ a.q .z ∷ a.q .w ∷ a.t .x ∷ a.t 
 -- the lengths of a product's two factors and of where it goes: each a transform
 abbrev pub fitsProduct : ℕ → ℕ → ℕ → Bool
 fitsProduct a b out = eqb a 7 && (eqb b 7 && eqb out 7)
-
--- an assembly: 0, or the number of the row that refuses
-abbrev pub builtNumber : Assembled → ℕ
-builtNumber assembled.Done = 0
-builtNumber (assembled.Bad k why) = assemblyRow why
-builtNumber assembled.Short = 21
 
 -- ---- a run's answer as eight numbers: number, place, iterations, converged, A, R, F, stop
 

@@ -1,8 +1,9 @@
 // Answers as the numbers that a host program reads: arrays of what a run, a job or an assembly comes to. Nothing is lent here.
 ghost use mathlib.Core.Path.{_≡_};
-ghost use Rattle.telling.specs.Telling.{quatNumbers, transformNumbers, fitsProduct, place32, stopNumber, flag, joinedEight, joinedCosts, refusedEight, answerEight};
-ghost use Rattle.telling.specs.Telling.{readEight, readNumber, readAnswer, writtenNumber, writtenTwo, judgedNine, refusedNine, measuresFour, fitsClosing, builtNumber};
-use assembly::Assembled;
+ghost use Rattle.telling.specs.Telling.{quatNumbers, transformNumbers, fitsProduct, place32, stopNumber, flag, joinedEight, joinedCosts};
+ghost use Rattle.telling.specs.Telling.{refusedEight, answerEight};
+ghost use Rattle.telling.specs.Telling.{readEight, readNumber, readAnswer, writtenNumber, writtenTwo, judgedNine, refusedNine, measuresFour};
+ghost use Rattle.telling.specs.Telling.{fitsClosing};
 use decisions::Why;
 use job::Read;
 use job::SettingBits;
@@ -34,17 +35,6 @@ pub fn product_fits(a: usize, b: usize, out: usize) -> bool
     ensures { λ r. ⌜ r ≡ fitsProduct a b out ⌝ }
 {
     (a == 7) & ((b == 7) & (out == 7))
-}
-
-// The answer of an assembly alone: 0, or the row that refuses it.
-pub fn built_number(a: Assembled) -> u32
-    ensures { λ r. ⌜ r ≡ builtNumber a ⌝ }
-{
-    match a {
-        Assembled::Done => 0,
-        Assembled::Bad { edge: _, why: _ } => 21,
-        Assembled::Short => 21,
-    }
 }
 
 // ---- a run

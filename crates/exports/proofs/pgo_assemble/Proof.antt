@@ -6,7 +6,8 @@ use Rattle.rotations.specs.declared.Vec3.{Vec3}
 use Rattle.graph.specs.declared.Manifold.{Manifold}
 use Rattle.graph.specs.declared.Manifold.the-variants.{Se3, Gravity}
 use Rattle.numbers.proofs.Steps.{passed, turned-away}
-use Rattle.exports.specs.Exported.{assembling, systemOf, assembleOut}
+use Rattle.normal_system.specs.NormalSystem.{assembling, systemOf}
+use Rattle.exports.specs.Exported.{assembleOut}
 use Rattle.exports.proofs.pgo_assemble.Statement.{statement}
 use Rattle.exports.proofs.pgo_assemble.Tie as tie
 

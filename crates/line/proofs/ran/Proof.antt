@@ -3,8 +3,6 @@ use Rattle.line.proofs.Lines.{nine-texts}
 use borrow.Author.Needs.{needs}
 use Rattle.line.proofs.ran.Statement.{statement}
 use Rattle.line.proofs.ran.Tie as tie
-use Rattle.line.proofs.ran.Reads as reads
-use Rattle.line.proofs.ran.Lts as lts
 use Rattle.line.proofs.empty.Reads as empty-reads
 use Rattle.line.proofs.with_decimal.Reads as with-decimal-reads
 use Rattle.line.proofs.with_text.Reads as with-text-reads

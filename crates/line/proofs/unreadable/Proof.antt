@@ -2,8 +2,6 @@ use Rattle.line.specs.Text.{unreadableText}
 use borrow.Author.Needs.{needs}
 use Rattle.line.proofs.unreadable.Statement.{statement}
 use Rattle.line.proofs.unreadable.Tie as tie
-use Rattle.line.proofs.unreadable.Reads as reads
-use Rattle.line.proofs.unreadable.Lts as lts
 use Rattle.line.proofs.empty.Reads as empty-reads
 use Rattle.line.proofs.with_text.Reads as with-text-reads
 

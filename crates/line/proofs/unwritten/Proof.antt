@@ -2,8 +2,6 @@ use Rattle.line.specs.Text.{unwrittenText}
 use borrow.Author.Needs.{needs}
 use Rattle.line.proofs.unwritten.Statement.{statement}
 use Rattle.line.proofs.unwritten.Tie as tie
-use Rattle.line.proofs.unwritten.Reads as reads
-use Rattle.line.proofs.unwritten.Lts as lts
 use Rattle.line.proofs.empty.Reads as empty-reads
 use Rattle.line.proofs.with_text.Reads as with-text-reads
 

@@ -5,8 +5,6 @@ use Rattle.line.specs.Text.{withByte}
 use borrow.Author.Needs.{needs}
 use Rattle.line.proofs.with_byte.Statement.{statement}
 use Rattle.line.proofs.with_byte.Tie as tie
-use Rattle.line.proofs.with_byte.Reads as reads
-use Rattle.line.proofs.with_byte.Lts as lts
 
 -- src/lib.rt:29:9
 array-write-bytes : tie.Need-array-write-bytes

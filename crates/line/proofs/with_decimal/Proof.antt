@@ -4,8 +4,6 @@ use Rattle.line.proofs.Lines.{decimal-digits}
 use borrow.Author.Needs.{needs}
 use Rattle.line.proofs.with_decimal.Statement.{statement}
 use Rattle.line.proofs.with_decimal.Tie as tie
-use Rattle.line.proofs.with_decimal.Reads as reads
-use Rattle.line.proofs.with_decimal.Lts as lts
 use Rattle.io.proofs.decimal.Reads as decimal-reads
 use Rattle.line.proofs.with_text.Reads as with-text-reads
 

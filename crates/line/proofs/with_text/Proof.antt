@@ -8,8 +8,6 @@ use Rattle.line.specs.Text.{withText}
 use Rattle.line.proofs.Lines.{text-none, text-more, text-all}
 use Rattle.line.proofs.with_text.Statement.{statement}
 use Rattle.line.proofs.with_text.Tie as tie
-use Rattle.line.proofs.with_text.Reads as reads
-use Rattle.line.proofs.with_text.Lts as lts
 use Rattle.line.proofs.with_byte.Reads as with-byte-reads
 
 abbrev Inv-loop : tie.InvT-loop

@@ -1,8 +1,6 @@
 use borrow.Author.Needs.{needs}
 use Rattle.line.proofs.with_yes_or_no.Statement.{statement}
 use Rattle.line.proofs.with_yes_or_no.Tie as tie
-use Rattle.line.proofs.with_yes_or_no.Reads as reads
-use Rattle.line.proofs.with_yes_or_no.Lts as lts
 use Rattle.line.proofs.with_text.Reads as with-text-reads
 
 -- src/lib.rt:63:29

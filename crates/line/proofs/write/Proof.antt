@@ -4,8 +4,6 @@ use lib.Seq.{length-take-le}
 use borrow.Author.Needs.{needs}
 use Rattle.line.proofs.write.Statement.{statement}
 use Rattle.line.proofs.write.Tie as tie
-use Rattle.line.proofs.write.Reads as reads
-use Rattle.line.proofs.write.Lts as lts
 use Rattle.io.proofs.write_all.Reads as write-all-reads
 
 -- src/lib.rt:90:27

@@ -1,5 +1,5 @@
 -- The invariant: the rows that have been looked at start where they should.
-use mathlib.Core.Path.{_≡_, refl, ap, _∙_}
+use mathlib.Core.Path.{_≡_, refl, _∙_}
 use mathlib.Core.Bool.{Bool, true, false}
 use mathlib.Core.List.{List}
 use Prim.Native.Nat.{ℕ, _+_, _-_, _*_, _<_, _≤_}
@@ -8,9 +8,8 @@ use borrow.Author.Count.{below-more}
 use borrow.Author.Tests.{leb-true}
 use denote.Ref.{now}
 use lib.Dec.{leb}
-use lib.ListN.{length, getD, set, length-set, replicate, length-replicate}
+use lib.ListN.{length, getD, set, length-set, length-replicate}
 use lib.Seq.{getD-set-same, getD-set-other}
-use lib.Ieee.{Float}
 use Rattle.numbers.specs.Notation.{if-then}
 use Rattle.numbers.proofs.Tables.{is-table}
 use Rattle.profile.specs.Layout.{need}

@@ -1,4 +1,4 @@
--- `numbers::digits` meets its contract. The invariant: with d digits made, q * q + rest and what is left of m are m * 4 ^ d,
+-- `roots::digits` meets its contract. The invariant: with d digits made, q * q + rest and what is left of m are m * 4 ^ d,
 -- as m's 54 digits go by two at a time. Assumes nothing.
 use mathlib.Core.Path.{_≡_, ap, _∙_}
 use Prim.Native.Nat.{ℕ, _+_, _-_, _*_, _/_, _%_, _^_, _≤_, _<_}

@@ -1,4 +1,4 @@
--- `numbers::exponent_halved` meets its contract. q * 2 ^ a is q * 2 ^ odd * 2 ^ w times 4 ^ k, whose root is that of the first, in 2 ^ k.
+-- `roots::exponent_halved` meets its contract. q * 2 ^ a is q * 2 ^ odd * 2 ^ w times 4 ^ k, whose root is that of the first, in 2 ^ k.
 -- Assumes nothing.
 use mathlib.Core.Path.{_≡_, sym, ap, _∙_, subst}
 use Prim.Native.Nat.{ℕ, suc, _+_, _-_, _*_, _/_, _%_, _^_, _≤_, _<_}

@@ -1,4 +1,4 @@
--- `numbers::guess` meets its contract: nothing is a NaN whose bits are taken, and the bits that are kept are few. Assumes nothing.
+-- `roots::guess` meets its contract: nothing is a NaN whose bits are taken, and the bits that are kept are few. Assumes nothing.
 use native.Mathlib.Omega.{arith}
 use lib.Bits.{and-mask}
 use lib.Ieee.{binary64}

@@ -1,9 +1,9 @@
--- `numbers::lifted` meets its contract. The invariant: q is t * 2 ^ i. Assumes nothing.
-use mathlib.Core.Path.{_≡_, refl, sym, ap, _∙_, subst}
-use Prim.Native.Nat.{ℕ, zero, suc, _+_, _-_, _*_, _/_, _%_, _^_, _≤_, _<_}
-use native.Mathlib.Nat.{le-trans, le-of-eq, lt-of-lt-of-le, lt-of-le-of-lt, lt-of-not-le, not-le-of-lt, one-mul, mul-one, mul-assoc, mul-le-mul-right}
+-- `roots::lifted` meets its contract. The invariant: q is t * 2 ^ i. Assumes nothing.
+use mathlib.Core.Path.{_≡_, sym, ap, _∙_}
+use Prim.Native.Nat.{ℕ, _+_, _-_, _*_, _%_, _^_, _≤_, _<_}
+use native.Mathlib.Nat.{le-trans, le-of-eq, lt-of-not-le, not-le-of-lt, one-mul, mul-one, mul-assoc, mul-le-mul-right}
 use native.Mathlib.Omega.{arith}
-use lib.Pow.{pow-add, pow-pos, pow-mono}
+use lib.Pow.{pow-add, pow-mono}
 use Rattle.numbers.proofs.Word.{one-shl}
 use Rattle.roots.proofs.lifted.Statement.{statement}
 use Rattle.roots.proofs.lifted.Tie as tie

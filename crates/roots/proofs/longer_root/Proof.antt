@@ -1,4 +1,4 @@
--- `numbers::longer_root` meets its contract: the laws of `proofs/Lengthening.antt`, as no shift and no product here loses a digit. Assumes nothing.
+-- `roots::longer_root` meets its contract: the laws of `proofs/Lengthening.antt`, as no shift and no product here loses a digit. Assumes nothing.
 use mathlib.Core.Path.{_≡_}
 use Prim.Native.Nat.{ℕ, _+_, _-_, _*_, _/_, _%_, _^_, _≤_, _<_}
 use native.Mathlib.Nat.{mod-lt, div-add-mod', div-mul-le-self}

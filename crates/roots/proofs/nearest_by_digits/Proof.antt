@@ -1,4 +1,4 @@
--- `numbers::nearest_by_digits` meets its contract: of a whole root that is above 0, what is left tells. Assumes nothing.
+-- `roots::nearest_by_digits` meets its contract: of a whole root that is above 0, what is left tells. Assumes nothing.
 use mathlib.Core.Path.{_≡_}
 use Prim.Native.Nat.{ℕ, zero, suc, _+_, _*_, _^_, _≤_, _<_}
 use native.Mathlib.Omega.{arith}

@@ -1,5 +1,4 @@
--- `numbers::nearest_root` meets its contract: a guess that passes is nearest, and the digits answer where none does. Assumes nothing.
-use native.Mathlib.Omega.{arith}
+-- `roots::nearest_root` meets its contract: a guess that passes is nearest, and the digits answer where none does. Assumes nothing.
 use borrow.Author.Needs.{needs}
 use Rattle.roots.proofs.nearest_root.Statement.{statement}
 use Rattle.roots.proofs.nearest_root.Tie as tie

@@ -1,4 +1,4 @@
--- `numbers::sqrt32` meets its contract: each return is a law of `proofs/Cases.antt`, with what `sqrt32_bits` ensures. Assumes nothing.
+-- `roots::sqrt32` meets its contract: each return is a law of `proofs/Cases.antt`, with what `sqrt32_bits` ensures. Assumes nothing.
 use mathlib.Core.Path.{sym, subst}
 use Prim.Native.Nat.{_<_}
 use native.Mathlib.Omega.{arith}

@@ -1,4 +1,4 @@
--- `numbers::sqrt32_bits` meets its contract: 24 digits by `nearest_root`, and `exponent_halved` says where they stand. Assumes nothing.
+-- `roots::sqrt32_bits` meets its contract: 24 digits by `nearest_root`, and `exponent_halved` says where they stand. Assumes nothing.
 use mathlib.Core.Path.{_≡_, refl, sym, ap, _∙_, subst}
 use Prim.Native.Nat.{ℕ, _+_, _*_, _/_, _%_, _^_, _≤_}
 use mathlib.Core.Bool.{false}

@@ -1,4 +1,4 @@
--- `numbers::tested` meets its contract: what passes is nearest, and what is nearest passes. Assumes nothing.
+-- `roots::tested` meets its contract: what passes is nearest, and what is nearest passes. Assumes nothing.
 use mathlib.Core.Path.{_≡_, refl}
 use Prim.Native.Nat.{ℕ, _+_, _*_, _%_, _^_, _≤_, _<_}
 use native.Mathlib.Omega.{arith}

@@ -1,4 +1,4 @@
--- `numbers::unpacked` meets its contract: the fields are a fraction, with the leading digit put in its place. Assumes nothing.
+-- `roots::unpacked` meets its contract: the fields are a fraction, with the leading digit put in its place. Assumes nothing.
 use mathlib.Core.Path.{_≡_, sym, ap, _∙_, subst}
 use Prim.Native.Nat.{ℕ, suc, _+_, _-_, _*_, _/_, _%_, _^_, _≤_, _<_}
 use mathlib.Core.Bool.{false}

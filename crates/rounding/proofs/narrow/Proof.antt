@@ -1,11 +1,11 @@
--- `numbers::narrow` meets its contract: the sign is put back on what `narrow_bits` makes of the other bits. Assumes nothing.
+-- `rounding::narrow` meets its contract: the sign is put back on what `narrow_bits` makes of the other bits. Assumes nothing.
 use mathlib.Core.Path.{_≡_, refl, sym, ap, _∙_, subst}
 use mathlib.Core.Bool.{Bool, true, false, not, cond}
-use Prim.Native.Nat.{ℕ, _+_, _-_, _*_, _/_, _%_, _^_, _≤_, _<_}
+use Prim.Native.Nat.{ℕ, _+_, _*_, _/_, _%_, _^_, _≤_, _<_}
 use native.Mathlib.Omega.{arith}
 use lib.Dec.{T, leb, leb→le, nleb→lt}
-use lib.Bits.{bitAnd, and-mask}
-use lib.Ieee.{Float, nan, binary32, binary64, div, fits, ofBits, toBits, ofFields}
+use lib.Bits.{and-mask}
+use lib.Ieee.{nan, binary32, binary64, div, fits, ofBits, toBits, ofFields}
 use lib.Ieee.Bits.{toBits-lt}
 use Rattle.rounding.specs.Rounding.{rounded}
 use Rattle.numbers.proofs.Read.{by-fields, no-nan, is-nan, no-nan-bits, bits-no-nan}

@@ -1,4 +1,4 @@
--- `numbers::narrow_bits` meets its contract: each way through it is a law of `proofs/Narrowing.antt`. Assumes nothing.
+-- `rounding::narrow_bits` meets its contract: each way through it is a law of `proofs/Narrowing.antt`. Assumes nothing.
 use mathlib.Core.Path.{_≡_, sym, ap, _∙_, subst}
 use mathlib.Core.Logic.{inl, inr}
 use Prim.Native.Nat.{ℕ, _+_, _-_, _/_, _%_, _^_, _≤_, _<_, min}

@@ -1,4 +1,4 @@
--- `numbers::round32` meets its contract: from 2^-126 up to where an infinity is nearest by the laws of `proofs/Widening.antt`, elsewhere by `narrow`.
+-- `rounding::round32` meets its contract: from 2^-126 up to where an infinity is nearest by the laws of `proofs/Widening.antt`, elsewhere by `narrow`.
 -- Assumes nothing.
 use mathlib.Core.Path.{_≡_, refl, sym, ap, _∙_, subst}
 use Prim.Native.Nat.{ℕ, _+_, _/_, _%_, _^_, _≤_, _<_}

@@ -1,7 +1,6 @@
 -- What the private functions of the solve promise, not what a reader need believe: the factor and the substitutions as the code does them, each sum of
 -- products from the first place on where both rows can differ from +0. The law `followed` of proofs/Followed.antt ties them to `Rule`.
-use Prim.Native.Nat.{ℕ, zero, suc, _+_, _-_, _*_, _<_, _≤_}
-use mathlib.Core.Path.{_≡_}
+use Prim.Native.Nat.{ℕ, zero, suc, _+_, _-_, _*_}
 use mathlib.Core.Bool.{Bool, true, false, _&&_, cond}
 use mathlib.Core.List.{List}
 use lib.Dec.{ltb}

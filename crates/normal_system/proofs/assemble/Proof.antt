@@ -5,10 +5,10 @@ use lib.ListN.{length}
 use lib.Seq.{length-take-le}
 use denote.Ref.{now}
 use Rattle.profile.specs.Layout.{need}
-use Rattle.exports.proofs.Building.{turned-down, n-most, need-most, work-enough, unit-n, assembled-part}
+use Rattle.normal_system.proofs.Building.{turned-down, n-most, need-most, work-enough, unit-n, assembled-part}
 use borrow.Author.Needs.{needs}
-use Rattle.exports.proofs.assemble.Statement.{statement}
-use Rattle.exports.proofs.assemble.Tie as tie
+use Rattle.normal_system.proofs.assemble.Statement.{statement}
+use Rattle.normal_system.proofs.assemble.Tie as tie
 
 validate-pose-graph-requires : tie.Need-validate-pose-graph-requires
 validate-pose-graph-requires c κs = tt

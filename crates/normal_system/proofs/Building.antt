@@ -30,9 +30,9 @@ use Rattle.retraction.specs.Retraction.{unitOf}
 use Rattle.profile.specs.Layout.{need}
 use Rattle.assembly.specs.Assembly.{cleared, assembledEnds, assembledFrom, assembledOf}
 use Rattle.assembly.specs.declared.Assembled.{Assembled}
-use Rattle.sparse_pgo.proofs.Slots.{links-same}
-use Rattle.telling.specs.Telling.{builtNumber}
-use Rattle.exports.specs.Exported.{assembling, systemOut, assembleFrom, systemOf}
+use Rattle.checks.proofs.Slots.{links-same}
+use Rattle.normal_system.specs.NormalSystem.{builtNumber}
+use Rattle.normal_system.specs.NormalSystem.{assembling, systemOut, assembleFrom, systemOf}
 
 -- ---- scratch: its count is known without a look at it
 

@@ -1,9 +1,9 @@
 use mathlib.Core.Path.{sym}
 use lib.ListN.{length-replicate}
 use lib.Ieee.{binary32, ofBits}
-use Rattle.exports.proofs.Building.{room-made}
-use Rattle.exports.proofs.build_large.Statement.{statement}
-use Rattle.exports.proofs.build_large.Tie as tie
+use Rattle.normal_system.proofs.Building.{room-made}
+use Rattle.normal_system.proofs.build_large.Statement.{statement}
+use Rattle.normal_system.proofs.build_large.Tie as tie
 
 slice-aggregate-build-over : tie.Need-slice-aggregate-build-over
 slice-aggregate-build-over c = sym (length-replicate 148608 (ofBits binary32 0))

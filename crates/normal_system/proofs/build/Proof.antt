@@ -1,5 +1,5 @@
-use Rattle.exports.proofs.build.Statement.{statement}
-use Rattle.exports.proofs.build.Tie as tie
+use Rattle.normal_system.proofs.build.Statement.{statement}
+use Rattle.normal_system.proofs.build.Tie as tie
 
 build-small-requires : tie.Need-build-small-requires
 build-small-requires c κs = (c .before .before .before .before .before .before .pre .0, c .before .if1 .taken)

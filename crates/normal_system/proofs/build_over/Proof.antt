@@ -5,10 +5,10 @@ use lib.ListN.{length, drop}
 use lib.Seq.{length-take-le, length-front, take-at}
 use denote.Ref.{now}
 use Rattle.graph.specs.Lent.{dofOf, poseAt, lentLinks}
-use Rattle.exports.proofs.Building.{built, unbuilt}
-use Rattle.exports.proofs.Copies.{copied-front}
-use Rattle.exports.proofs.build_over.Statement.{statement}
-use Rattle.exports.proofs.build_over.Tie as tie
+use Rattle.normal_system.proofs.Building.{built, unbuilt}
+use Rattle.slices.proofs.Laws.{copied-front}
+use Rattle.normal_system.proofs.build_over.Statement.{statement}
+use Rattle.normal_system.proofs.build_over.Tie as tie
 
 slice-relend-prefix-build-normal-system-with-mapping : tie.Need-slice-relend-prefix-build-normal-system-with-mapping
 slice-relend-prefix-build-normal-system-with-mapping c = c .before .before .before .before .before .pre .1

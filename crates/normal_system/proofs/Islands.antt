@@ -17,7 +17,7 @@ use Rattle.checks.specs.declared.Checked.the-variants as checked
 use Rattle.checks.proofs.Row26.{SomeAdrift, refused-26-graph}
 use Rattle.retraction.specs.Retraction.{unitOf}
 use Rattle.assembly.specs.Assembly.{assembledEnds}
-use Rattle.exports.specs.Exported.{systemOut, assembleFrom, systemOf}
+use Rattle.normal_system.specs.NormalSystem.{systemOut, assembleFrom, systemOf}
 
 system-other : (n : ℕ) (w : List Float) (e : Ended (List Float)) → systemOut n w e .0 ≡ 26 → ⊥
 system-other n w (done s) e = omega arith

@@ -4,10 +4,10 @@ use Rattle.numbers.specs.declared.Failure.{Failure}
 use Rattle.numbers.specs.declared.Failure.the-variants.{Numerical}
 use Rattle.assembly.specs.declared.Assembled.{Assembled}
 use Rattle.assembly.specs.declared.Assembled.the-variants as assembled
-use Rattle.sparse_pgo.specs.Parts.{assemblyRow}
-use Rattle.telling.specs.Telling.{builtNumber}
-use Rattle.telling.proofs.built_number.Statement.{statement}
-use Rattle.telling.proofs.built_number.Tie as tie
+use Rattle.assembly.specs.Assembly.{assemblyRow}
+use Rattle.normal_system.specs.NormalSystem.{builtNumber}
+use Rattle.normal_system.proofs.built_number.Statement.{statement}
+use Rattle.normal_system.proofs.built_number.Tie as tie
 
 row : (why : Failure) → 21 ≡ assemblyRow why
 row Numerical = refl
