@@ -90,7 +90,7 @@ pub fn to_root<N: Number>(
     }
 }
 
-/// The port's guess at the root of q * 2^odd * 2^52, for q of 53 digits: `guess` of its crate numbers, transcribed so that
+/// The port's guess at the root of q * 2^odd * 2^52, for q of 53 digits: `guess` of its crate roots, transcribed so that
 /// the inputs can be told for which it fails its test. Those are the hard ones.
 fn guess(q: u64, odd: u64) -> u64 {
     let bits = q + ((1022 + odd) << 52);

@@ -45,7 +45,8 @@ answer (beside x) =
 abbrev far : Float
 far = ofBits binary64 0x7e37_e43c_8800_759c
 
--- measured (1, 0, 0) costs 0; (2, 0, 0) costs 1, or 0.25 at weight 0.5; a pose at 1e300 can't be priced where an active edge names it, and costs nothing elsewhere
+-- measured (1, 0, 0) costs 0; (2, 0, 0) costs 1, or 0.25 at weight 0.5; a pose at 1e300 can't be priced where an active edge names it, and costs
+-- nothing elsewhere
 pub samples : map answer (at (num 1) 1 (num 1) ∷ at (num 1) 2 (num 1) ∷ at (num 1) 2 (ratio 1 2) ∷ at far 1 (num 1) ∷ beside far ∷ [])
     ≡ (0 ∷ []) ∷ (0x3f80_0000 ∷ []) ∷ (0x3e80_0000 ∷ []) ∷ [] ∷ (0x3f80_0000 ∷ []) ∷ []
 unfolding answer ratio if-then add sub mul div neg lt le ofBits toBits rounded rooted each mustBeFinite

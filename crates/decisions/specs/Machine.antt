@@ -39,7 +39,8 @@ nextOf m limit tolerance (next.On s) x = afterTurn limit tolerance s (m .assembl
 nextOf m limit tolerance (next.Over s e) x = next.Over s e
 
 unfoldable pub heldOf : {X : Type 0} → Numerics X → ℕ → Float → Next → X → X
-heldOf m limit tolerance (next.On s) x = movedOn s (stateOf (afterTurn limit tolerance s (m .assemble x) (m .attempt x (s .damping)))) (m .moved x (s .damping)) x
+heldOf m limit tolerance (next.On s) x =
+    movedOn s (stateOf (afterTurn limit tolerance s (m .assemble x) (m .attempt x (s .damping)))) (m .moved x (s .damping)) x
 heldOf m limit tolerance (next.Over s e) x = x
 
 -- k turns: what has ended stays

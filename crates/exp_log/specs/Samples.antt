@@ -15,7 +15,8 @@ use Rattle.exp_log.specs.declared.Moved.{Moved}
 use Rattle.exp_log.specs.declared.Moved.the-variants as moved
 use Rattle.rotations.specs.Rotation.{vec, dot, cross, plus, minus, times, matrixOf, turned, conjugate, quatProduct, wide, finished, product, inverse, over}
 use Rattle.rotations.specs.FromMatrix.{halvedBy, byRule, quatOfMatrix}
-use Rattle.exp_log.specs.ExpLog.{series, squared, squarings, sineSeries, cosineSeries, turnBy, smallBend, largeBend, bend, bent, turning, turnOf, movedBy, expOf}
+use Rattle.exp_log.specs.ExpLog.{series, squared, squarings, sineSeries, cosineSeries, turnBy, smallBend, largeBend, bend, bent, turning}
+use Rattle.exp_log.specs.ExpLog.{turnOf, movedBy, expOf}
 use Rattle.exp_log.specs.ExpLog.{upright, halved, arcSeries, angleOf, unbend, logWide, narrowedTwist, logOf}
 
 -- ---- numbers by their f32 bits: 0, 1/2, 1, 2, 3, and one with the other sign
@@ -89,8 +90,8 @@ answer (product-of a b) = seven-of (product a b)
 answer (inverse-of a) = seven-of (inverse a)
 
 -- log of a translation alone is that translation; exp of zero is the identity, and of a translation alone that translation;
--- exp of a turn of 64 is had, (sin 32, 0, 0, cos 32), and of 65 fails; the quaternion of the identity matrix; products with the identity; a vector turned; an inverse;
--- exp of (0, 1, 0) and a turn of 1 about x, which is (sin ½, 0, 0, cos ½) and (0, sin 1, 1 − cos 1); and its log
+-- exp of a turn of 64 is had, (sin 32, 0, 0, cos 32), and of 65 fails; the quaternion of the identity matrix; products with the identity; a vector turned;
+-- an inverse; exp of (0, 1, 0) and a turn of 1 about x, which is (sin ½, 0, 0, cos ½) and (0, sin 1, 1 − cos 1); and its log
 pub samples : map answer (log (at noTurn (v32 one two three))
     ∷ exp (v64 o o o) (v64 o o o) ∷ exp (v64 one two three) (v64 o o o)
     ∷ exp (v64 o o o) (v64 0x4280_0000 o o) ∷ exp (v64 o o o) (v64 0x4282_0000 o o)
@@ -105,6 +106,7 @@ pub samples : map answer (log (at noTurn (v32 one two three))
     ∷ (half ∷ half ∷ half ∷ half ∷ one ∷ two ∷ three ∷ []) ∷ (half ∷ half ∷ half ∷ half ∷ one ∷ two ∷ three ∷ [])
     ∷ (half ∷ half ∷ half ∷ half ∷ three ∷ one ∷ two ∷ []) ∷ (less half ∷ less half ∷ less half ∷ half ∷ less two ∷ less three ∷ less one ∷ [])
     ∷ (0x3ef5_7744 ∷ o ∷ o ∷ 0x3f60_a940 ∷ o ∷ 0x3f57_6aa4 ∷ 0x3eeb_5d7f ∷ []) ∷ (o ∷ one ∷ 0xb0ef_66e4 ∷ one ∷ o ∷ o ∷ []) ∷ []
-unfolding answer ratio if-then add sub mul div neg lt le ofBits toBits rounded rooted dot cross plus minus times over matrixOf turned conjugate quatProduct wide finished product inverse
-    halvedBy byRule quatOfMatrix series squared squarings sineSeries cosineSeries turnBy smallBend largeBend bend bent turning turnOf movedBy expOf upright halved arcSeries angleOf unbend logWide narrowedTwist logOf
+unfolding answer ratio if-then add sub mul div neg lt le ofBits toBits rounded rooted dot cross plus minus times over matrixOf turned conjugate quatProduct wide
+    finished product inverse halvedBy byRule quatOfMatrix series squared squarings sineSeries cosineSeries turnBy smallBend largeBend bend bent turning turnOf
+    movedBy expOf upright halved arcSeries angleOf unbend logWide narrowedTwist logOf
 samples = refl

@@ -7,7 +7,7 @@ use lib.Dec.{eqb, leb}
 use lib.ListN.{length, getD}
 use lib.Ieee.{Float}
 use Rattle.numbers.specs.Notation.{if-then}
-use Rattle.numbers.specs.Walks.{every, Ended}
+use Rattle.numbers.specs.Walks.{every}
 use Rattle.numbers.specs.Refusals.{verdict}
 use Rattle.numbers.specs.declared.Verdict.{Verdict}
 use Rattle.numbers.specs.declared.Verdict.the-variants as verdict

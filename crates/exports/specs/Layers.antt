@@ -29,7 +29,7 @@ use Rattle.profile.specs.Layout.{need}
 use Rattle.solve.specs.Work.{solvedAs, leaves}
 use Rattle.solve.specs.declared.Solved.{Solved}
 use Rattle.solve.specs.declared.Solved.the-variants as solved
-use Rattle.telling.specs.Telling.{fitsProduct, quatNumbers, transformNumbers}
+use Rattle.telling.specs.Telling.{quatNumbers, transformNumbers}
 
 abbrev pub unfitNumber : ℕ
 unfitNumber = 4294967295
@@ -69,7 +69,7 @@ quaternionOut m out =
 
 unfoldable pub productOut : List Float → List Float → List Float → ℕ × List Float
 productOut a b out =
-    if-then (fitsProduct (length a) (length b) (length out))
+    if-then (eqb (length a) 7 && (eqb (length b) 7 && eqb (length out) 7))
     (0, transformNumbers (product (transformFrom a) (transformFrom b)))
     (unfitNumber, out)
 

@@ -142,7 +142,7 @@ pub extern "C" fn pgo_quaternion_of_matrix(m: &[f32], out: &mut [f32]) -> u32
 pub extern "C" fn pgo_product(a: &[f32], b: &[f32], out: &mut [f32]) -> u32
     ensures { λ r. ⌜ (r, became out) ≡ productOut (was a) (was b) (was out) ⌝ }
 {
-    if !telling::product_fits(a.len(), b.len(), out.len()) {
+    if !((a.len() == 7) & ((b.len() == 7) & (out.len() == 7))) {
         return UNFIT;
     }
     let p = rotations::product_of(transform_from(a), transform_from(b));
@@ -518,7 +518,7 @@ pub extern "C" fn pgo_assemble(
         return UNFIT;
     }
     let m = manifold_of(dof, vec_from(gravity));
-    normal_system::assemble(m, poses, ends, edges, fixed, work)
+    normal_system::assemble_alone(m, poses, ends, edges, fixed, work)
 }
 
 // ---- jobs

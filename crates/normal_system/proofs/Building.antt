@@ -5,7 +5,7 @@ use Prim.Native.Nat.{ℕ, _+_, _*_, _≤_}
 use native.Mathlib.Nat.{mul-le-mul, le-of-eq}
 use native.Mathlib.Omega.{arith}
 use borrow.Author.Tests.{le-ltb}
-use lib.ListN.{length, take, drop, replicate, length-replicate, drop-of-length-le, take-append-drop}
+use lib.ListN.{length, take, drop, replicate, drop-of-length-le, take-append-drop}
 use lib.Seq.{length-take-le, drop-nil}
 use lib.Ieee.{Float}
 use Rattle.numbers.specs.Notation.{num}
@@ -31,13 +31,8 @@ use Rattle.profile.specs.Layout.{need}
 use Rattle.assembly.specs.Assembly.{cleared, assembledEnds, assembledFrom, assembledOf}
 use Rattle.assembly.specs.declared.Assembled.{Assembled}
 use Rattle.checks.proofs.Slots.{links-same}
-use Rattle.normal_system.specs.NormalSystem.{builtNumber}
+use Rattle.normal_system.specs.forms.Building.{builtNumber}
 use Rattle.normal_system.specs.NormalSystem.{assembling, systemOut, assembleFrom, systemOf}
-
--- ---- scratch: its count is known without a look at it
-
-pub room-made : (n : ℕ) (x : Float) {k : ℕ} → k ≤ n → k ≤ length (replicate n x)
-room-made n x h = rw (length-replicate n x) h
 
 -- ---- into scratch: work of exactly n (n + 3) numbers, what stood in it does not count
 

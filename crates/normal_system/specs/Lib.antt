@@ -1,1 +1,2 @@
 pub mod NormalSystem
+pub mod forms

@@ -5,7 +5,7 @@ use lib.ListN.{length, drop}
 use lib.Ieee.{Float}
 use Rattle.numbers.specs.Walks.{Ended, done, stopped}
 use Rattle.graph.specs.Graph.{linksOf, freeCount}
-use Rattle.graph.specs.Lent.{dofOf, poseAt, lentLinks}
+use Rattle.graph.specs.Lent.{dofOf, poseAt}
 use Rattle.graph.specs.declared.Manifold.{Manifold}
 use Rattle.checks.specs.Input.{Input, lent, unset, graphOf}
 use Rattle.checks.specs.Table.{graphChecks}
@@ -14,8 +14,6 @@ use Rattle.checks.specs.declared.Checked.the-variants as checked
 use Rattle.retraction.specs.Retraction.{unitOf}
 use Rattle.profile.specs.Layout.{need}
 use Rattle.assembly.specs.Assembly.{assembledEnds, assemblyRow}
-use Rattle.assembly.specs.declared.Assembled.{Assembled}
-use Rattle.assembly.specs.declared.Assembled.the-variants as assembled
 
 -- No f64 work is lent, and none is missed; an output as long as the poses is taken as given.
 abbrev pub assembling : Manifold → List Float → List ℕ → List Float → List ℕ → List Float → Input
@@ -27,11 +25,6 @@ abbrev pub systemOut : ℕ → List Float → Ended (List Float) → ℕ × List
 systemOut n w (done s) = (0, s ++ drop (need n) w)
 systemOut n w (stopped k why s) = (assemblyRow why, w)
 
--- of lent numbers that passed the checks, with the blocks of the poses
-abbrev pub builtOut : Manifold → List Float → List ℕ → List Float → List ℕ → ℕ → List Float → ℕ × List Float
-builtOut m poses ends edges blocks free w =
-    systemOut (dofOf m * free) w (assembledEnds m (dofOf m * free) (lentLinks ends edges blocks free) (poseAt poses) [])
-
 abbrev pub assembleFrom : Input → List Float → Checked → ℕ × List Float
 assembleFrom i w (checked.Turned r) = (r .number, w)
 assembleFrom i w (checked.Fit c) =
@@ -40,11 +33,3 @@ assembleFrom i w (checked.Fit c) =
 
 unfoldable pub systemOf : Input → List Float → ℕ × List Float
 systemOf i w = assembleFrom i w (graphChecks i .answer)
-
--- ---- for a private function: of what is made of scratch
-
--- an assembly: 0, or the number of the row that refuses
-abbrev pub builtNumber : Assembled → ℕ
-builtNumber assembled.Done = 0
-builtNumber (assembled.Bad k why) = assemblyRow why
-builtNumber assembled.Short = 21

@@ -5,7 +5,8 @@ ghost use lib.ListN.{length};
 ghost use Rattle.numbers.specs.Notation.{was, became};
 ghost use Rattle.graph.specs.Lent.{dofOf};
 ghost use Rattle.profile.specs.Layout.{need};
-ghost use Rattle.normal_system.specs.NormalSystem.{assembling, builtOut, systemOf, builtNumber};
+ghost use Rattle.normal_system.specs.NormalSystem.{assembling, systemOf};
+ghost use Rattle.normal_system.specs.forms.Building.{builtOut, builtNumber};
 use assembly::Assembled;
 use checks::Checked;
 use graph::Manifold;
@@ -129,7 +130,7 @@ fn build(
 }
 
 // The number of the row that refuses, or 0: H and gradient in the first n (n + 3) numbers of the work, the rest of these +0.
-pub fn assemble(
+pub fn assemble_alone(
     m: Manifold,
     poses: &[f64],
     ends: &[u32],

@@ -24,7 +24,6 @@ use Rattle.checks.specs.Table.{rows}
 use Rattle.checks.proofs.Passed.{fit}
 use Rattle.residual.specs.Residuals.{hasResidual}
 use Rattle.sparse_pgo.specs.Optimize.{After, optimized}
-use Rattle.sparse_pgo.specs.declared.Joined.{Joined}
 use Rattle.sparse_pgo.specs.declared.Answer.{Answer}
 use Rattle.sparse_pgo.specs.declared.Answer.the-variants as answer
 use Rattle.sparse_pgo.proofs.Demands.{never-refused}

@@ -3,7 +3,6 @@ use crate::bytes;
 use crate::inputs;
 use crate::inputs::Lists;
 use decisions::Why;
-use graph::Manifold;
 use numbers::Refusal;
 use sparse_pgo::Answer;
 use sparse_pgo::Joined;
@@ -78,33 +77,6 @@ fn same_answer(a: Answer, out: &[f64], b: &[u8], at: usize) -> bool
     }
 }
 
-fn play(
-    b: &[u8],
-    poses: &[f64],
-    ends: &[u32],
-    edges: &[f32],
-    fixed: &[u32],
-    w32: &mut [f32],
-    w64: &mut [f64],
-    out: &mut [f64],
-) -> Answer {
-    let s = inputs::settings_of(b);
-    match inputs::manifold_of(b) {
-        Manifold::Se3 => sparse_pgo::optimize(poses, ends, edges, fixed, s, w32, w64, out),
-        Manifold::Gravity(g) => sparse_pgo::optimize_with_gravity(
-            g,
-            poses,
-            ends,
-            edges,
-            fixed,
-            s,
-            w32,
-            w64,
-            out,
-        ),
-    }
-}
-
 // The run of these lists over what is lent, each as long as the record says, and the record's answer.
 pub fn same_run(b: &[u8], poses: &[f64], ends: &[u32], edges: &[f32], fixed: &[u32]) -> bool {
     let l = inputs::lists_of(b);
@@ -117,7 +89,17 @@ pub fn same_run(b: &[u8], poses: &[f64], ends: &[u32], edges: &[f32], fixed: &[u
     let w32 = &mut work32[..n32];
     let w64 = &mut work64[..n64];
     let new = &mut out[..n];
-    let a = play(b, poses, ends, edges, fixed, w32, w64, new);
+    let a = sparse_pgo::sparse_pose_graph_optimize(
+        inputs::manifold_of(b),
+        poses,
+        ends,
+        edges,
+        fixed,
+        inputs::settings_of(b),
+        w32,
+        w64,
+        new,
+    );
     same_answer(a, new, b, l.end)
 }
 

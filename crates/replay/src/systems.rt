@@ -9,18 +9,23 @@ ghost use Prim.Native.Nat.{_≤_};
 
 // ---- assembly
 
-// The refusal's number, or 0 and the system in the work. The f64 work and the output are not asked here.
-fn assemble(
-    b: &[u8],
-    poses: &[f64],
-    ends: &[u32],
-    edges: &[f32],
-    fixed: &[u32],
-    w32: &mut [f32],
-) -> u32 {
+// The refusal's number, or 0.
+fn assembled(a: Assembled) -> u32 {
+    match a {
+        Assembled::Done => 0,
+        Assembled::Bad { edge: _, why: _ } => 21,
+        Assembled::Short => 14,
+    }
+}
+
+// The work as long as the record says, which is what the system needs. The f64 work and the output are not asked here.
+pub fn same_assembly(b: &[u8], poses: &[f64], ends: &[u32], edges: &[f32], fixed: &[u32]) -> bool {
+    let l = inputs::lists_of(b);
+    let end = l.end;
+    let w = bytes::count_at(b, 60, 0, 4096);
     let m = inputs::manifold_of(b);
     let room = Room {
-        work32: w32.len(),
+        work32: w,
         work64: 6144,
         out: poses.len(),
     };
@@ -28,10 +33,12 @@ fn assemble(
     let answer = checks.answer;
     let blocks = checks.blocks;
     match answer {
-        Checked::Turned(r) => r.number,
+        Checked::Turned(r) => r.number == bytes::u32_at(b, end, 0),
         Checked::Fit(c) => {
+            let mut work = [0.0f32; 4096];
+            let w32 = &mut work[..w];
             let unit = retraction::unit_manifold(m);
-            match assembly::build_normal_system_with_mapping(
+            let number = assembled(assembly::build_normal_system_with_mapping(
                 w32,
                 unit,
                 poses,
@@ -39,30 +46,16 @@ fn assemble(
                 edges,
                 &blocks,
                 c.free,
-            ) {
-                Assembled::Done => 0,
-                Assembled::Bad { edge: _, why: _ } => 21,
-                Assembled::Short => 14,
+            ));
+            if number != bytes::u32_at(b, end, 0) {
+                return false;
             }
+            if number != 0 {
+                return true;
+            }
+            bytes::same_f32s(w32, b, end + 8)
         }
     }
-}
-
-// The work as long as the record says, which is what the system needs.
-pub fn same_assembly(b: &[u8], poses: &[f64], ends: &[u32], edges: &[f32], fixed: &[u32]) -> bool {
-    let l = inputs::lists_of(b);
-    let end = l.end;
-    let w = bytes::count_at(b, 60, 0, 4096);
-    let mut work = [0.0f32; 4096];
-    let w32 = &mut work[..w];
-    let number = assemble(b, poses, ends, edges, fixed, w32);
-    if number != bytes::u32_at(b, end, 0) {
-        return false;
-    }
-    if number != 0 {
-        return true;
-    }
-    bytes::same_f32s(w32, b, end + 8)
 }
 
 pub fn is_whole_assembly(b: &[u8]) -> bool {

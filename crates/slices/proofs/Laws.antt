@@ -1,5 +1,5 @@
 -- The laws of copies and clears. Assumes nothing.
-use mathlib.Core.Path.{_≡_, refl, sym, ap, _∙_}
+use mathlib.Core.Path.{_≡_, refl, sym, ap, _∙_, subst}
 use mathlib.Core.Logic.{inr}
 use mathlib.Core.Bool.{Bool, true, false}
 use mathlib.Core.List.{List, _++_, append-nil}
@@ -8,8 +8,8 @@ use native.Mathlib.Nat.{le-of-eq, le-min, min-le-left, min-eq-left, min-eq-right
 use native.Mathlib.Omega.{arith}
 use borrow.Author.Tests.{ltb-true, ltb-false}
 use lib.Dec.{ltb}
-use lib.ListN.{length, getD, take, drop, replicate, length-append, length-take, length-drop, List·getD-append, drop-of-length-le}
-use lib.Seq.{ext-getD, getD-take, getD-drop, getD-append-add, take-length}
+use lib.ListN.{length, getD, take, drop, replicate, length-append, length-take, length-drop, length-replicate, List·getD-append, drop-of-length-le}
+use lib.Seq.{ext-getD, length-take-le, getD-take, getD-drop, getD-append-add, take-length}
 use lib.Ieee.{Float}
 use Rattle.numbers.specs.Notation.{num}
 use Rattle.numbers.proofs.Laying.{Laid, from-start}
@@ -60,3 +60,11 @@ copied-front {A} m l h = ap (λ (z : List A). take (length l) m ++ z) (drop-of-l
 -- the front of a list cleared, its rest as it was
 pub cleared-front : (k : ℕ) (w : List Float) → k ≤ length w → replicate (length (take k w)) (num 0) ++ drop k w ≡ zeroed k w
 cleared-front k w h = ap (λ (n : ℕ). replicate n (num 0) ++ drop k w) (length-take k w ∙ min-eq-left h)
+
+-- ---- an array made of one number: its count is known without a look at it
+
+pub room-made : {A : Type 0} (n : ℕ) (x : A) {k : ℕ} → k ≤ n → k ≤ length (replicate n x)
+room-made n x {k} l = subst (λ m. k ≤ m) (sym (length-replicate n x)) l
+
+pub part-made : {A : Type 0} (n : ℕ) (x : A) {k : ℕ} → k ≤ n → k ≡ length (take k (replicate n x))
+part-made n x {k} l = sym (length-take-le k (replicate n x) (room-made n x l))

@@ -45,7 +45,7 @@ pub fn clear32(w: &mut [f32])
 {
     let mut i = 0usize;
     while i < w.len() {
-        w[i] = 0.0;
+        w[i] = 0.0f32;
         i += 1;
     }
 }
@@ -55,7 +55,7 @@ pub fn clear64(w: &mut [f64])
 {
     let mut i = 0usize;
     while i < w.len() {
-        w[i] = 0.0;
+        w[i] = 0.0f64;
         i += 1;
     }
 }

@@ -1,4 +1,5 @@
--- What a run answers, and what it leaves in every lent number, for every input: document 01, "Numbers lent and given back", "What is turned down". Definitions only.
+-- What a run answers, and what it leaves in every lent number, for every input: document 01, "Numbers lent and given back", "What is turned down".
+-- Definitions only.
 use Prim.Native.Nat.{ℕ, _*_}
 use mathlib.Core.List.{List}
 use lib.ListN.{length}

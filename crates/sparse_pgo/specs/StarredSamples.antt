@@ -40,8 +40,8 @@ pub record Sample : Type 0 where
 abbrev pub damping : events.Case → ℕ → Sample
 damping c n = record { case = of-damping c; gives = n ∷ [] }
 
-abbrev pub root : roots.Case → ℕ → Sample
-root c n = record { case = of-roots c; gives = n ∷ [] }
+abbrev pub rooting : roots.Case → ℕ → Sample
+rooting c n = record { case = of-roots c; gives = n ∷ [] }
 
 abbrev pub identity : Transform
 identity = record { q = record { x = num 0; y = num 0; z = num 0; w = num 1 }; t = record { x = num 0; y = num 0; z = num 0 } }
@@ -58,9 +58,9 @@ starred =
     -- 1e-20 accepted becomes 1e-10
     ∷ damping (events.lowered (ratio32 1 100000000000000000000)) (toBits binary32 lambdaMin)
     -- √4 = 2, in f32 and in f64; √2 in f32
-    ∷ root (roots.sqrt32 0x4080_0000) 0x4000_0000
-    ∷ root (roots.sqrt64 0x4010_0000_0000_0000) 0x4000_0000_0000_0000
-    ∷ root (roots.sqrt32 0x4000_0000) 0x3fb5_04f3
+    ∷ rooting (roots.sqrt32 0x4080_0000) 0x4000_0000
+    ∷ rooting (roots.sqrt64 0x4010_0000_0000_0000) 0x4000_0000_0000_0000
+    ∷ rooting (roots.sqrt32 0x4000_0000) 0x3fb5_04f3
     -- 2⁻¹⁵⁰ narrows to 0
     ∷ record { case = of-narrowing 0x3690_0000_0000_0000; gives = 0 ∷ [] }
     -- log of the identity is zero

@@ -1,4 +1,4 @@
--- The numbers that a host program reads of what a layer, a run, a scan, a job or an assembly comes to. Definitions only.
+-- The numbers that a host program reads of what a layer, a run, a scan or a job comes to. Definitions only.
 use Prim.Native.Nat.{ℕ}
 use mathlib.Core.Bool.{Bool, true, false, _&&_, _||_}
 use mathlib.Core.List.{List, [], _∷_, _++_}
@@ -29,10 +29,6 @@ quatNumbers q = q.x ∷ q.y ∷ q.z ∷ q.w ∷ []
 -- seven numbers: quaternion x, y, z, w, then translation
 abbrev pub transformNumbers : Transform → List Float
 transformNumbers a = a.q .x ∷ a.q .y ∷ a.q .z ∷ a.q .w ∷ a.t .x ∷ a.t .y ∷ a.t .z ∷ []
-
--- the lengths of a product's two factors and of where it goes: each a transform
-abbrev pub fitsProduct : ℕ → ℕ → ℕ → Bool
-fitsProduct a b out = eqb a 7 && (eqb b 7 && eqb out 7)
 
 -- ---- a run's answer as eight numbers: number, place, iterations, converged, A, R, F, stop
 

@@ -1,6 +1,6 @@
-// Answers as the numbers that a host program reads: arrays of what a run, a job or an assembly comes to. Nothing is lent here.
+// Answers as the numbers that a host program reads: arrays of what a layer, a run, a scan or a job comes to. Nothing is lent here.
 ghost use mathlib.Core.Path.{_≡_};
-ghost use Rattle.telling.specs.Telling.{quatNumbers, transformNumbers, fitsProduct, place32, stopNumber, flag, joinedEight, joinedCosts};
+ghost use Rattle.telling.specs.Telling.{quatNumbers, transformNumbers, place32, stopNumber, flag, joinedEight, joinedCosts};
 ghost use Rattle.telling.specs.Telling.{refusedEight, answerEight};
 ghost use Rattle.telling.specs.Telling.{readEight, readNumber, readAnswer, writtenNumber, writtenTwo, judgedNine, refusedNine, measuresFour};
 ghost use Rattle.telling.specs.Telling.{fitsClosing};
@@ -28,13 +28,6 @@ pub fn transform_numbers(a: Transform) -> [f32; 7]
     ensures { λ r. ⌜ r ≡ transformNumbers a ⌝ }
 {
     [a.q.x, a.q.y, a.q.z, a.q.w, a.t.x, a.t.y, a.t.z]
-}
-
-// Whether the lengths fit of what is lent for a product: three transforms.
-pub fn product_fits(a: usize, b: usize, out: usize) -> bool
-    ensures { λ r. ⌜ r ≡ fitsProduct a b out ⌝ }
-{
-    (a == 7) & ((b == 7) & (out == 7))
 }
 
 // ---- a run

@@ -21,18 +21,18 @@ vec-from-requires c κs = tt
 manifold-of-requires : tie.Need-manifold-of-requires
 manifold-of-requires c κs = tt
 
-assemble-requires : tie.Need-assemble-requires
-assemble-requires c κs = tt
+assemble-alone-requires : tie.Need-assemble-alone-requires
+assemble-alone-requires c κs = tt
 
 same-length : tie.Need-same-length
-same-length c = c .before .before .assemble .kept .1 .1 .1 .1 .1 .0
+same-length c = c .before .before .assemble-alone .kept .1 .1 .1 .1 .1 .0
 
 returns-2 : tie.Need-returns-2
 unfolding assembleOut
 returns-2 c =
     let a = c .before .before .before .before .before .before .before .before .before .before .before .before .before .args in
     passed _ refl (c .before .before .before .before .before .before .if1 .left)
-    (c .before .before .assemble .ensures
+    (c .before .before .assemble-alone .ensures
     ∙ ap (λ (m : Manifold). systemOf (assembling m (now (a .poses)) (now (a .ends)) (now (a .edges)) (now (a .fixed)) (now (a .work))) (now (a .work)))
     (c .before .before .before .before .manifold-of .ensures ∙ ap (λ (g : Vec3). if-then (eqb (a .dof) 6) Se3 (Gravity g)) (c .before .before .before .before .before .vec-from .ensures)))
 
@@ -43,6 +43,6 @@ pgo-assemble-spec =
     returns
     vec-from-requires
     manifold-of-requires
-    assemble-requires
+    assemble-alone-requires
     same-length
     returns-2)

@@ -1,4 +1,4 @@
-use mathlib.Core.Path.{refl, sym, ap, _∙_}
+use mathlib.Core.Path.{refl, sym, ap}
 use lib.Dec.{eqb}
 use lib.ListN.{length}
 use denote.Ref.{now}
@@ -10,12 +10,9 @@ use Rattle.exports.proofs.Copies.{laid}
 use Rattle.exports.proofs.pgo_product.Statement.{statement}
 use Rattle.exports.proofs.pgo_product.Tie as tie
 
-product-fits-requires : tie.Need-product-fits-requires
-product-fits-requires c κs = tt
-
 returns : tie.Need-returns
 unfolding productOut
-returns c = turned-away _ (c .before .product-fits .ensures) (c .if1 .taken) refl
+returns c = turned-away _ refl (c .if1 .taken) refl
 
 transform-from-requires : tie.Need-transform-from-requires
 transform-from-requires c κs = tt
@@ -47,13 +44,11 @@ returns-2 c =
     let at-transform-from2 = at-product-of .before in
     let at-transform-from = at-transform-from2 .before in
     let at-if1 = at-transform-from .before in
-    let at-product-fits = at-if1 .before in
-    let z = at-product-fits .before .before .before .before in
-    let fits = at-product-fits .product-fits .ensures in
-    passed _ fits (at-if1 .if1 .left)
+    let z = at-if1 .before .before .before .before in
+    passed _ refl (at-if1 .if1 .left)
     (rw (
       laid _ (now (z .args .out)) (at-transform-numbers .transform-numbers .ensures)
-          (eqb-true _ _ (and-second (eqb (length (now (z .args .b))) 7) _ (and-second (eqb (length (now (z .args .a))) 7) _ (sym fits ∙ not-false _ (at-if1 .if1 .left)))))
+          (eqb-true _ _ (and-second (eqb (length (now (z .args .b))) 7) _ (and-second (eqb (length (now (z .args .a))) 7) _ (not-false _ (at-if1 .if1 .left)))))
           (at-copy32 .copy32 .ensures),
       at-product-of .product-of .ensures,
       at-transform-from2 .transform-from2 .ensures,
@@ -64,7 +59,6 @@ pub pgo-product-spec : {M : Type 1} → statement M
 pgo-product-spec =
     tie.close
     (tie.spec
-    product-fits-requires
     returns
     transform-from-requires
     transform-from-requires-2

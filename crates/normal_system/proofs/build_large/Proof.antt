@@ -1,7 +1,7 @@
 use mathlib.Core.Path.{sym}
 use lib.ListN.{length-replicate}
 use lib.Ieee.{binary32, ofBits}
-use Rattle.normal_system.proofs.Building.{room-made}
+use Rattle.slices.proofs.Laws.{room-made}
 use Rattle.normal_system.proofs.build_large.Statement.{statement}
 use Rattle.normal_system.proofs.build_large.Tie as tie
 

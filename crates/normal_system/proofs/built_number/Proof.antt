@@ -5,7 +5,7 @@ use Rattle.numbers.specs.declared.Failure.the-variants.{Numerical}
 use Rattle.assembly.specs.declared.Assembled.{Assembled}
 use Rattle.assembly.specs.declared.Assembled.the-variants as assembled
 use Rattle.assembly.specs.Assembly.{assemblyRow}
-use Rattle.normal_system.specs.NormalSystem.{builtNumber}
+use Rattle.normal_system.specs.forms.Building.{builtNumber}
 use Rattle.normal_system.proofs.built_number.Statement.{statement}
 use Rattle.normal_system.proofs.built_number.Tie as tie
 

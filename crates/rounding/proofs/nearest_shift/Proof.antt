@@ -1,4 +1,4 @@
--- `rounding::nearest_shift` meets its contract: what is added carries into the quotient just where it is to go up (`proofs/Word.antt`). Assumes nothing.
+-- `rounding::nearest_shift` meets its contract: what is added carries into the quotient just where it is to go up (`proofs/Word.antt` of numbers). Assumes nothing.
 use mathlib.Core.Path.{_≡_, ap, _∙_}
 use Prim.Native.Nat.{ℕ, _+_, _-_, _*_, _/_, _%_, _^_, _≤_}
 use native.Mathlib.Omega.{arith}

@@ -1,5 +1,6 @@
 -- What the private functions of the run promise of the lent work: w32 is the work of a solve, w64 the accepted poses and then the trial's. The reader's
--- definition is `optimized` (Optimize.antt), to which the law `run-fit` (proofs/Border.antt) takes the last form here; nothing here adds to it. Definitions only.
+-- definition is `optimized` (Optimize.antt), to which the law `run-fit` (proofs/Border.antt) takes the last form here; nothing here adds to it.
+-- Definitions only.
 use Prim.Native.Nat.{ℕ, _*_, _≤_}
 use mathlib.Core.Path.{_≡_}
 use mathlib.Core.Bool.{Bool, true, false}

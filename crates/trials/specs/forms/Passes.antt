@@ -1,5 +1,5 @@
--- What the private functions of a trial promise. `try-accepted` and `try-rejected` of proofs/Trying tie it to the public promises, `tryAnswers` and `tryLeaves`.
--- Definitions only.
+-- What the private functions of a trial promise. `try-accepted` and `try-rejected` of proofs/Trying tie it to the public promises,
+-- `tryAnswers` and `tryLeaves`. Definitions only.
 use Prim.Native.Nat.{ℕ, _/_, _<_}
 use mathlib.Core.Path.{_≡_}
 use mathlib.Core.Bool.{Bool}
@@ -31,5 +31,6 @@ pub record Retracted (m : Manifold) (slot : ℕ → Slot) (δ : ℕ → Float) (
 -- a trial, judged against the cost
 pub record Evaluated (m : Manifold) (l : Links Edge) (cost : Float) (δ : ℕ → Float) (before : List Float) (r : Trial) (after : List Float) : Type 0 where
   pub answer : outcome.Tried r
-      ≡ heard cost (triedAs (moves m (l .slot) (length before / 24) (take (half before) before) δ) (costEnds l (poseAt (drop (half before) (trialIn m (l .slot) δ before)))))
+      ≡ heard cost (triedAs (moves m (l .slot) (length before / 24) (take (half before) before) δ)
+      (costEnds l (poseAt (drop (half before) (trialIn m (l .slot) δ before)))))
   pub poses : after ≡ trialIn m (l .slot) δ before

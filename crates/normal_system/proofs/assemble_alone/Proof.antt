@@ -7,8 +7,8 @@ use denote.Ref.{now}
 use Rattle.profile.specs.Layout.{need}
 use Rattle.normal_system.proofs.Building.{turned-down, n-most, need-most, work-enough, unit-n, assembled-part}
 use borrow.Author.Needs.{needs}
-use Rattle.normal_system.proofs.assemble.Statement.{statement}
-use Rattle.normal_system.proofs.assemble.Tie as tie
+use Rattle.normal_system.proofs.assemble_alone.Statement.{statement}
+use Rattle.normal_system.proofs.assemble_alone.Tie as tie
 
 validate-pose-graph-requires : tie.Need-validate-pose-graph-requires
 validate-pose-graph-requires c κs = tt
@@ -86,8 +86,8 @@ returns-2 c =
     assembled-part (a .m) (now (a .poses)) (now (a .ends)) (now (a .edges)) (now (a .fixed)) (now (a .work)) _ (c .before .before .before .before .before .before .before .before .before .before .before .before .validate-pose-graph .ensures)
     _ (c .before .before .before .before .before .before .before .before .before .answer2 .given .1) _ (f .dof .ensures) _ (c .before .before .before .before .before .unit-manifold .ensures) (c .before .before .build .ensures)
 
-pub assemble-spec : {M : Type 1} → statement M
-assemble-spec =
+pub assemble-alone-spec : {M : Type 1} → statement M
+assemble-alone-spec =
     tie.close
     (tie.spec
     validate-pose-graph-requires
