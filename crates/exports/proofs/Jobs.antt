@@ -6,7 +6,8 @@ use lib.ListN.{length}
 use borrow.Author.Tests.{eq-eqb}
 use Rattle.numbers.proofs.Choices.{taken}
 use Rattle.slices.specs.Slices.{copied}
-use Rattle.job.specs.Format.{Job, Space, readInto, writtenInto}
+use Rattle.job.specs.Format.{Job, Space, readInto}
+use Rattle.job.specs.Writer.{writtenInto}
 use Rattle.job.specs.declared.Read.{Read}
 use Rattle.job.specs.declared.Read.the-variants as read
 use Rattle.job.specs.declared.Written.{Written}

@@ -5,7 +5,8 @@ use mathlib.Core.List.{List}
 use lib.Dec.{eqb}
 use lib.ListN.{length}
 use Rattle.numbers.specs.Notation.{if-then}
-use Rattle.job.specs.Format.{Job, Space, readInto, writtenInto}
+use Rattle.job.specs.Format.{Job, Space, readInto}
+use Rattle.job.specs.Writer.{writtenInto}
 use Rattle.job.specs.declared.SettingBits.{SettingBits}
 use Rattle.job.specs.declared.Read.{Read}
 use Rattle.job.specs.declared.Written.{Written}

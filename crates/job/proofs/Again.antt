@@ -8,14 +8,15 @@ use borrow.Author.Tests.{eq-eqb, le-ltb}
 use lib.ListN.{length, take, drop}
 use lib.Seq.{take-at}
 use Rattle.numbers.specs.Walks.{table}
-use Rattle.job.specs.declared.Tally.{Tally}
+use Rattle.job_records.specs.declared.Tally.{Tally}
 use Rattle.job.specs.declared.SettingBits.{SettingBits}
 use Rattle.job.specs.declared.Read.{Read}
 use Rattle.job.specs.declared.Read.the-variants as read
 use Rattle.job.specs.declared.Written.the-variants as written
-use Rattle.job.specs.Bytes.{valuesAt, pasted}
+use Rattle.job_records.specs.Bytes.{valuesAt, pasted}
 use Rattle.job.specs.Format.{Job, Space, space, tallyOf, encoded, sizeOf, Reading, taken, refused, reading, roomIn, filled, settingsFrom, readGives, readInto}
-use Rattle.job.specs.Format.{settingNumbers, jobOf, writtenInto}
+use Rattle.job.specs.Format.{settingNumbers, jobOf}
+use Rattle.job.specs.Writer.{writtenInto}
 use Rattle.job.proofs.Bytewise.{Bytes}
 use Rattle.job.proofs.Along.{job-same}
 use Rattle.job.proofs.Encoding.{length-encoded}

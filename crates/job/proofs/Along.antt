@@ -11,12 +11,14 @@ use lib.ListN.{length, take, drop, length-append}
 use Rattle.numbers.specs.Walks.{strung}
 use Rattle.numbers.specs.Notation.{if-then}
 use Rattle.numbers.proofs.Tables.{length-table}
-use Rattle.job.specs.Bytes.{valueAt, valuesAt, bytesFrom}
-use Rattle.job.specs.declared.Tally.{Tally}
-use Rattle.job.specs.declared.Cursor.{Cursor}
-use Rattle.job.specs.declared.Step.the-variants as step
-use Rattle.job.specs.Format.{Job, emptyJob, recordOf, settingsRecord, poseRecord, edgeRecord, fixedRecord, kindAt, lengthAt, start}
-use Rattle.job.specs.Format.{counted, behind, numbersIf, holding, recordStep}
+use Rattle.job_records.specs.Bytes.{valueAt, valuesAt, bytesFrom}
+use Rattle.job_records.specs.declared.Tally.{Tally}
+use Rattle.job_records.specs.declared.Cursor.{Cursor}
+use Rattle.job_records.specs.declared.Step.the-variants as step
+use Rattle.job_records.specs.Records.{kindAt, lengthAt}
+use Rattle.job.specs.Format.{Job, emptyJob, recordOf, settingsRecord, poseRecord, edgeRecord, fixedRecord, start}
+use Rattle.job_records.specs.Records.{counted, behind, recordStep}
+use Rattle.job.specs.Format.{numbersIf, holding}
 use Rattle.job.proofs.Stepping.{Kind, settings as of-settings, pose as of-pose, edge as of-edge, fixed as of-fixed, end as of-end}
 use Rattle.job.proofs.Stepping.{Fault-free, fault-free, rises, first, room-for-pose, room-for-edge, room-for-fixed, Went-on, went-on}
 use Rattle.job.proofs.Firsts.{Comes, begins, passes}

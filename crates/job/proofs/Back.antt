@@ -12,12 +12,13 @@ use lib.Seq.{take-suc, take-all}
 use Rattle.numbers.specs.Notation.{if-then}
 use Rattle.numbers.specs.Walks.{table, strung}
 use Rattle.numbers.specs.declared.Verdict.the-variants as verdict
-use Rattle.job.specs.declared.Tally.{Tally}
-use Rattle.job.specs.declared.Cursor.{Cursor}
-use Rattle.job.specs.declared.Step.the-variants as step
-use Rattle.job.specs.Bytes.{valuesAt, bytesFrom}
+use Rattle.job_records.specs.declared.Tally.{Tally}
+use Rattle.job_records.specs.declared.Cursor.{Cursor}
+use Rattle.job_records.specs.declared.Step.the-variants as step
+use Rattle.job_records.specs.Bytes.{valuesAt, bytesFrom}
 use Rattle.job.specs.Format.{Job, emptyJob, tallyOf, settingsRecord, poseRecord, edgeRecord, fixedRecord, endRecord, encoded}
-use Rattle.job.specs.Format.{kindAt, isRecord, mayFollow, isFull, faultOf, start, counted, stepFrom, recordStep, holding, taken, reading, CursorIn}
+use Rattle.job_records.specs.Records.{kindAt, isRecord, mayFollow, isFull, faultOf, counted, stepFrom, recordStep}
+use Rattle.job.specs.Format.{start, holding, taken, reading, CursorIn}
 use Rattle.job.proofs.Pasting.{length-strung}
 use Rattle.job.proofs.Stepping.{from, from-start, from-on, from-done, cursor-start}
 use Rattle.job.proofs.Encoding.{length-bytesFrom, length-recordOf, length-settingsRecord, length-poseRecord, length-edgeRecord, length-fixedRecord}

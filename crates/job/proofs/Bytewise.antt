@@ -9,8 +9,9 @@ use lib.ListN.{length, getD, take, drop, length-take, length-drop, List·getD-ap
 use lib.Seq.{drop-cons, take-add, drop-drop, getD-append-add}
 use Rattle.numbers.specs.Walks.{strung}
 use Rattle.numbers.proofs.Tables.{getD-table}
-use Rattle.job.specs.Bytes.{valueAt, valuesAt, bytesOf, bytesFrom}
-use Rattle.job.specs.Format.{lengthAt, kindAt, recordOf}
+use Rattle.job_records.specs.Bytes.{valueAt, valuesAt, bytesOf, bytesFrom}
+use Rattle.job_records.specs.Records.{lengthAt, kindAt}
+use Rattle.job.specs.Format.{recordOf}
 
 -- every number of s is a byte
 abbrev pub Bytes : List ℕ → Type 0

@@ -5,7 +5,7 @@ use mathlib.Core.Path.{_≡_, refl, ap}
 use mathlib.Core.List.{List, [], _∷_, _++_}
 use lib.ListN.{length, getD, length-append}
 use Rattle.numbers.specs.Walks.{strung}
-use Rattle.job.specs.Bytes.{bytesOf, bytesFrom}
+use Rattle.job_records.specs.Bytes.{bytesOf, bytesFrom}
 use Rattle.job.specs.Format.{Job, tallyOf, recordOf, settingsRecord, poseRecord, edgeRecord, fixedRecord, endRecord, encoded, sizeOf}
 use Rattle.job.proofs.Pasting.{length-strung}
 

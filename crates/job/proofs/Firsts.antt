@@ -13,11 +13,12 @@ use Rattle.numbers.specs.Refusals.{refusal, ask, says}
 use Rattle.numbers.specs.declared.Refusal.{Refusal}
 use Rattle.numbers.specs.declared.Verdict.{Verdict}
 use Rattle.numbers.specs.declared.Verdict.the-variants as verdict
-use Rattle.job.specs.declared.Tally.{Tally}
-use Rattle.job.specs.declared.Cursor.{Cursor}
-use Rattle.job.specs.declared.Step.{Step}
-use Rattle.job.specs.declared.Step.the-variants as step
-use Rattle.job.specs.Format.{Job, kindAt, faultOf, endFaults, behind, closed, stepFrom, recordStep}
+use Rattle.job_records.specs.declared.Tally.{Tally}
+use Rattle.job_records.specs.declared.Cursor.{Cursor}
+use Rattle.job_records.specs.declared.Step.{Step}
+use Rattle.job_records.specs.declared.Step.the-variants as step
+use Rattle.job_records.specs.Records.{kindAt, faultOf, endFaults, behind, closed, stepFrom, recordStep}
+use Rattle.job.specs.Format.{Job}
 use Rattle.job.specs.Format.{holding, taken, refused, reading, start, emptyJob, CursorIn}
 use Rattle.job.proofs.Stepping.{cursor-on, cursor-start, from, from-start, from-on, from-done, from-stop}
 

@@ -13,12 +13,13 @@ use Rattle.numbers.specs.declared.Refusal.{Refusal}
 use Rattle.numbers.specs.declared.Verdict.the-variants as verdict
 use Rattle.numbers.proofs.Choices.{taken, left}
 use Rattle.numbers.proofs.Tables.{length-table}
-use Rattle.job.specs.declared.Tally.{Tally}
-use Rattle.job.specs.declared.Cursor.{Cursor}
-use Rattle.job.specs.declared.Step.the-variants as step
+use Rattle.job_records.specs.declared.Tally.{Tally}
+use Rattle.job_records.specs.declared.Cursor.{Cursor}
+use Rattle.job_records.specs.declared.Step.the-variants as step
 use Rattle.job.specs.declared.Scanned.the-variants as scanned
-use Rattle.job.specs.Bytes.{valuesAt, pasted}
-use Rattle.job.specs.Format.{Job, kindAt, lengthAt, isFull, faultOf, one, behind, recordStep, numbersIf, holding, Reading, reading}
+use Rattle.job_records.specs.Bytes.{valuesAt, pasted}
+use Rattle.job_records.specs.Records.{kindAt, lengthAt, isFull, faultOf, one, behind, recordStep}
+use Rattle.job.specs.Format.{Job, numbersIf, holding, Reading, reading}
 use Rattle.job.specs.Format.{start, emptyJob, Space, space, roomIn, filled, CursorIn, scannedAs, IsTaken, taking, filledBy}
 use Rattle.job.proofs.Pasting.{pasted-none, pasted-more, length-pasted}
 use Rattle.job.proofs.Stepping.{Kind, settings, pose, edge, fixed, end, fault-free, room-for-pose, room-for-edge, room-for-fixed, went-on}
@@ -265,8 +266,10 @@ module _ {room : Tally} {s : List ℕ} {l₀ : Space} {c : Cursor} {l : Space} (
   pub same-room : room ≡ roomIn l
   same-room = h .room-is ∙ sym (let n = same-lengths in rw (n .0, n .1, n .2, n .3))
 
-  pub may-take : (d : Cursor) → recordStep room s c ≡ step.On d → CursorIn s c × (faultOf (roomIn l) s c ≡ verdict.Fine)
-  may-take d e = (h .seen .cursor, subst (λ (r : Tally). faultOf r s c ≡ verdict.Fine) same-room (went-on room s c d e .fine))
+  pub may-take : (d : Cursor) → recordStep room s c ≡ step.On d → (d .last ≡ kindAt s (c .at)) × (faultOf (roomIn l) s c ≡ verdict.Fine)
+  may-take d e =
+      let w = went-on room s c d e in
+      (ap (λ (x : Cursor). x .last) (w .is), subst (λ (r : Tally). faultOf r s c ≡ verdict.Fine) same-room (w .fine))
 
   pub held-done : recordStep room s c ≡ step.Done → l ≡ filledBy (reading room s) l₀
   held-done e = h .now ∙ sym (ap (λ (x : Reading). filledBy x l₀) (h .seen .is ∙ from-done room s c (h .seen .job) e))

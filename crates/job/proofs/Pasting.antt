@@ -1,5 +1,5 @@
 -- The laws of lists put into another: nothing put, one number stored, one list behind the other, and lengths. Assumes nothing.
-use Prim.Native.Nat.{ℕ, zero, suc, _+_, _*_, _-_, _≤_, _<_}
+use Prim.Native.Nat.{ℕ, zero, suc, _+_, _*_, _≤_, _<_}
 use native.Mathlib.Omega.{arith}
 use native.Mathlib.Nat.{add-zero, mul-comm}
 use mathlib.Core.Path.{_≡_, refl, sym, ap, _∙_}
@@ -8,7 +8,7 @@ use lib.ListN.{length, take, drop, set, length-append, length-drop}
 use lib.Seq.{length-take-le, take-at, drop-at, drop-drop, set-split}
 use Rattle.numbers.specs.Walks.{strung}
 use Rattle.numbers.proofs.Strung.{strung-long}
-use Rattle.job.specs.Bytes.{pasted}
+use Rattle.job_records.specs.Bytes.{pasted}
 
 -- the two parts of a list, one behind the other
 pub take-drop : (n : ℕ) (l : List ℕ) → take n l ++ drop n l ≡ l

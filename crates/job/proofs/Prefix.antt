@@ -16,12 +16,13 @@ use Rattle.numbers.specs.declared.Verdict.{Verdict}
 use Rattle.numbers.specs.declared.Verdict.the-variants as verdict
 use Rattle.numbers.proofs.Tests.{and-first, true-or-false}
 use Rattle.numbers.proofs.Tables.{table-ext}
-use Rattle.job.specs.declared.Tally.{Tally}
-use Rattle.job.specs.declared.Cursor.{Cursor}
-use Rattle.job.specs.declared.Step.{Step}
-use Rattle.job.specs.declared.Step.the-variants as step
-use Rattle.job.specs.Bytes.{valueAt, valuesAt}
-use Rattle.job.specs.Format.{Job, kindAt, lengthAt, isRecord, mayFollow, isFull, faultOf, counted, stepFrom, recordStep, readAtMost}
+use Rattle.job_records.specs.declared.Tally.{Tally}
+use Rattle.job_records.specs.declared.Cursor.{Cursor}
+use Rattle.job_records.specs.declared.Step.{Step}
+use Rattle.job_records.specs.declared.Step.the-variants as step
+use Rattle.job_records.specs.Bytes.{valueAt, valuesAt}
+use Rattle.job_records.specs.Records.{kindAt, lengthAt, isRecord, mayFollow, isFull, faultOf, counted, stepFrom, recordStep}
+use Rattle.job.specs.Format.{Job, readAtMost}
 use Rattle.job.specs.Format.{holding, readOn, readFrom, reading, start, emptyJob}
 use Rattle.job.proofs.Stepping.{Kind, settings, pose, edge, fixed, end, kind-of, fault-free, first, room-for-pose, room-for-edge, room-for-fixed}
 use Rattle.job.proofs.Stepping.{went-on, enough, cursor-start}

@@ -5,11 +5,11 @@ use mathlib.Core.Path.{_≡_, refl, sym, ap, _∙_}
 use mathlib.Core.List.{List}
 use lib.ListN.{length}
 use Rattle.numbers.specs.declared.Refusal.{Refusal}
-use Rattle.job.specs.declared.Tally.{Tally}
+use Rattle.job_records.specs.declared.Tally.{Tally}
 use Rattle.job.specs.declared.SettingBits.{SettingBits}
 use Rattle.job.specs.declared.Scanned.the-variants as scanned
 use Rattle.job.specs.declared.Read.the-variants as read
-use Rattle.job.specs.Bytes.{valuesAt}
+use Rattle.job_records.specs.Bytes.{valuesAt}
 use Rattle.job.specs.Format.{Reading, taken, refused, reading, Space, roomIn, settingsFrom, readGives, readInto, scannedAs, IsTaken, filledBy}
 use Rattle.job.proofs.Trips.{read-settings}
 

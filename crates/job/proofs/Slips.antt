@@ -7,13 +7,12 @@ use lib.ListN.{replicate}
 use Rattle.numbers.specs.Notation.{if-then}
 use Rattle.numbers.specs.Refusals.{refusal}
 use Rattle.numbers.specs.Walks.{table, strung}
-use Rattle.job.specs.declared.Tally.{Tally}
-use Rattle.rows.specs.Tests.{unfit}
+use Rattle.job_records.specs.declared.Tally.{Tally}
 use Rattle.job.specs.declared.Read.the-variants as read
-use Rattle.job.specs.declared.Written.the-variants as written
-use Rattle.job.specs.Bytes.{valueAt, bytesOf, bytesFrom, pasted}
-use Rattle.job.specs.Format.{Job, recordOf, encoded, isRecord, mayFollow, isFull, faultOf, recordStep, holding}
-use Rattle.job.specs.Format.{Reading, taken, refused, readFrom, reading, space, roomIn, filled, readInto, writtenInto}
+use Rattle.job_records.specs.Bytes.{valueAt, bytesOf, bytesFrom, pasted}
+use Rattle.job_records.specs.Records.{isRecord, mayFollow, isFull, faultOf, recordStep}
+use Rattle.job.specs.Format.{Job, recordOf, encoded, holding}
+use Rattle.job.specs.Format.{Reading, taken, refused, readFrom, reading, space, roomIn, filled, readInto}
 
 -- reading, with all that it computes by
 unfoldable computed : Tally → List ℕ → Reading
@@ -230,25 +229,3 @@ refused-changes-nothing :
     ≡ (read.Refused (refusal 30 32), space [] [] [] (4 ∷ 4 ∷ []))
 unfolding computed readInto
 refused-changes-nothing = refl
-
--- ---- j. the writer: 2 before 36; an output that the job fills is enough, one byte less is not; what stands behind is as found
-
-abbrev noPose : Job
-noPose = zeroJob 0 0 0
-
-unfit-before-short :
-    writtenInto (record { settings = replicate 4 0; poses = 0 ∷ []; ends = []; edges = []; fixed = [] }) [] ≡ (written.Refused (refusal 2 0), [])
-unfolding computed writtenInto unfit
-unfit-before-short = refl
-
-one-byte-too-few : writtenInto noPose (replicate 23 7) ≡ (written.Refused (refusal 36 0), replicate 23 7)
-unfolding computed writtenInto unfit
-one-byte-too-few = refl
-
-just-enough : writtenInto noPose (replicate 24 7) ≡ (written.Bytes 24, settings ++ end)
-unfolding computed writtenInto unfit pasted
-just-enough = refl
-
-behind-as-found : writtenInto noPose (replicate 26 7) ≡ (written.Bytes 24, settings ++ end ++ (7 ∷ 7 ∷ []))
-unfolding computed writtenInto unfit pasted
-behind-as-found = refl

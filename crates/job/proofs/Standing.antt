@@ -10,8 +10,9 @@ use lib.ListN.{length, length-append}
 use lib.Seq.{getD-append-add}
 use Rattle.numbers.specs.Walks.{table, strung}
 use Rattle.numbers.proofs.Tables.{table-ext}
-use Rattle.job.specs.Bytes.{valueAt, valuesAt, bytesOf}
-use Rattle.job.specs.Format.{recordOf, kindAt, lengthAt}
+use Rattle.job_records.specs.Bytes.{valueAt, valuesAt, bytesOf}
+use Rattle.job_records.specs.Records.{kindAt, lengthAt}
+use Rattle.job.specs.Format.{recordOf}
 use Rattle.job.proofs.Pasting.{length-strung}
 use Rattle.job.proofs.Encoding.{length-bytesOf}
 

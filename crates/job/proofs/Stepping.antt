@@ -16,11 +16,13 @@ use Rattle.numbers.specs.declared.Verdict.{Verdict}
 use Rattle.numbers.specs.declared.Verdict.the-variants as verdict
 use Rattle.numbers.proofs.Tests.{and-first, and-second, neither-first, or-cases}
 use Rattle.numbers.proofs.Reading.{fault-at}
-use Rattle.job.specs.declared.Tally.{Tally}
-use Rattle.job.specs.declared.Cursor.{Cursor}
-use Rattle.job.specs.declared.Step.{Step}
-use Rattle.job.specs.declared.Step.the-variants as step
-use Rattle.job.specs.Format.{Job, kindAt, lengthAt, isRecord, mayFollow, isFull, recordFaults, faultOf, endFaults, one, behind, closed, stepFrom, recordStep}
+use Rattle.job_records.specs.declared.Tally.{Tally}
+use Rattle.job_records.specs.declared.Cursor.{Cursor}
+use Rattle.job_records.specs.declared.Step.{Step}
+use Rattle.job_records.specs.declared.Step.the-variants as step
+use Rattle.job_records.specs.Records.{kindAt, lengthAt, isRecord, mayFollow, isFull, recordFaults}
+use Rattle.job_records.specs.Records.{faultOf, endFaults, one, behind, closed, stepFrom, recordStep}
+use Rattle.job.specs.Format.{Job}
 use Rattle.job.specs.Format.{holding, Reading, taken, refused, readOn, readFrom, reading, start, emptyJob, CursorIn}
 
 -- ---- kinds and lengths

@@ -10,10 +10,11 @@ use lib.ListN.{length, getD}
 use lib.Seq.{take-all}
 use Rattle.numbers.specs.Notation.{if-then}
 use Rattle.numbers.specs.Walks.{table}
-use Rattle.job.specs.Bytes.{valueAt, valuesAt}
-use Rattle.job.specs.declared.Tally.{Tally}
-use Rattle.job.specs.declared.Cursor.{Cursor}
-use Rattle.job.specs.Format.{Job, tallyOf, endRecord, encoded, kindAt, lengthAt, numbersIf, holding, taken, reading}
+use Rattle.job_records.specs.Bytes.{valueAt, valuesAt}
+use Rattle.job_records.specs.declared.Tally.{Tally}
+use Rattle.job_records.specs.declared.Cursor.{Cursor}
+use Rattle.job_records.specs.Records.{kindAt, lengthAt}
+use Rattle.job.specs.Format.{Job, tallyOf, endRecord, encoded, numbersIf, holding, taken, reading}
 use Rattle.job.proofs.Stepping.{Kind, settings as of-settings, pose as of-pose, edge as of-edge, fixed as of-fixed, end as of-end}
 use Rattle.job.proofs.Stepping.{fault-free, rises, ended}
 use Rattle.job.proofs.Firsts.{Comes, begins, passes, taken-there}

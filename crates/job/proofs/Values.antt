@@ -9,7 +9,7 @@ use lib.Dec.{lit<}
 use lib.ListN.{length, getD, set, length-set}
 use Rattle.numbers.specs.Walks.{table}
 use Rattle.numbers.proofs.Tables.{length-table}
-use Rattle.job.specs.Bytes.{valueAt, valuesAt, pasted}
+use Rattle.job_records.specs.Bytes.{valueAt, valuesAt, pasted}
 use Rattle.job.proofs.Pasting.{pasted-none, pasted-set}
 
 -- ---- a number of w bytes from a place on, of which those from the i-th on were read

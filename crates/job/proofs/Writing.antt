@@ -10,10 +10,10 @@ use lib.Dec.{ltb, eqb}
 use borrow.Author.Tests.{ltb-true, ltb-false, lt-ltb, le-ltb, eq-eqb, eqb-true, not-false}
 use lib.ListN.{length, getD, set, length-append}
 use Rattle.numbers.specs.Walks.{strung}
-use Rattle.job.specs.Bytes.{bytesOf, bytesFrom, pasted}
+use Rattle.job_records.specs.Bytes.{bytesOf, bytesFrom, pasted}
 use Rattle.job.specs.Format.{Job, tallyOf, recordOf, settingsRecord, poseRecord, edgeRecord, fixedRecord, encoded, sizeOf}
-use Rattle.job.specs.Format.{writeRows, writtenAs, writtenInto}
-use Rattle.job.specs.declared.Tally.{Tally}
+use Rattle.job.specs.Writer.{writeRows, writtenAs, writtenInto}
+use Rattle.job_records.specs.declared.Tally.{Tally}
 use Rattle.job.specs.declared.Written.{Written}
 use Rattle.job.specs.declared.Written.the-variants as written
 use Rattle.numbers.specs.Refusals.{refusal, fault, verdict}

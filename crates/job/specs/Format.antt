@@ -1,29 +1,25 @@
--- The job file: document 02, Wish 1. What a job is, what its records are, which fault a record has, what reading answers and what writing writes.
+-- The job file: document 02, Wish 1. What a job is, as numbers and as bytes, and what reading answers.
 -- A number is a bit pattern here, and no float is looked at. Definitions only.
 use Prim.Native.Nat.{ℕ, zero, suc, _+_, _*_, _/_, _≤_, min}
-use mathlib.Core.Bool.{Bool, not, _&&_, _||_}
+use mathlib.Core.Bool.{Bool}
 use mathlib.Core.List.{List, [], _∷_, _++_}
-use lib.Dec.{eqb, ltb, leb}
+use lib.Dec.{eqb}
 use lib.ListN.{length, getD}
 use Rattle.numbers.specs.Walks.{strung}
 use Rattle.numbers.specs.Notation.{if-then}
-use Rattle.numbers.specs.Refusals.{refusal, Fault, fault, says, Row, row, verdict}
+use Rattle.numbers.specs.Refusals.{refusal}
 use Rattle.numbers.specs.declared.Refusal.{Refusal}
-use Rattle.numbers.specs.declared.Verdict.{Verdict}
-use Rattle.numbers.specs.declared.Verdict.the-variants as verdict
-use Rattle.rows.specs.Tests.{unfit}
-use Rattle.job.specs.Bytes.{valueAt, valuesAt, bytesOf, bytesFrom, pasted}
-use Rattle.job.specs.declared.Tally.{Tally}
-use Rattle.job.specs.declared.Cursor.{Cursor}
+use Rattle.job_records.specs.Records.{kindAt, recordStep}
+use Rattle.job_records.specs.Bytes.{valuesAt, bytesOf, bytesFrom, pasted}
+use Rattle.job_records.specs.declared.Tally.{Tally}
+use Rattle.job_records.specs.declared.Cursor.{Cursor}
 use Rattle.job.specs.declared.SettingBits.{SettingBits}
-use Rattle.job.specs.declared.Step.{Step}
-use Rattle.job.specs.declared.Step.the-variants as step
+use Rattle.job_records.specs.declared.Step.{Step}
+use Rattle.job_records.specs.declared.Step.the-variants as step
 use Rattle.job.specs.declared.Scanned.{Scanned}
 use Rattle.job.specs.declared.Scanned.the-variants as scanned
 use Rattle.job.specs.declared.Read.{Read}
 use Rattle.job.specs.declared.Read.the-variants as read
-use Rattle.job.specs.declared.Written.{Written}
-use Rattle.job.specs.declared.Written.the-variants as written
 
 -- ---- a job
 
@@ -80,80 +76,10 @@ encoded j =
 abbrev pub sizeOf : Tally → ℕ
 sizeOf t = 24 + 100 * t .poses + 44 * t .edges + 8 * t .fixed
 
--- ---- which fault a record has
-
-abbrev pub lengthAt : List ℕ → ℕ → ℕ
-lengthAt s at = valueAt 2 s at
-
-abbrev pub kindAt : List ℕ → ℕ → ℕ
-kindAt s at = valueAt 2 s (at + 2)
-
--- the kind is known, and the length is that of its body
-unfoldable pub isRecord : ℕ → ℕ → Bool
-isRecord kind len =
-    (eqb kind 1 && eqb len 16)
-    || ((eqb kind 2 && eqb len 96)
-    || ((eqb kind 3 && eqb len 40)
-    || ((eqb kind 4 && eqb len 4)
-    || (eqb kind 5 && eqb len 0))))
-
--- settings come first, and once; kinds never fall. `last` is the kind of the record before, 0 where there is none
-unfoldable pub mayFollow : ℕ → ℕ → Bool
-mayFollow last kind = if-then (eqb last 0) (eqb kind 1) (not (eqb kind 1) && leb last kind)
-
--- there is no room for one more of the kind
-unfoldable pub isFull : Tally → Tally → ℕ → Bool
-isFull room had kind =
-    (eqb kind 2 && leb (room .poses) (had .poses))
-    || ((eqb kind 3 && leb (room .edges) (had .edges))
-    || (eqb kind 4 && leb (room .fixed) (had .fixed)))
-
--- a cut header, then a bad length, kind or order, a cut body, one too many; the place is where the record starts or should
-abbrev pub recordFaults : Tally → List ℕ → Cursor → List Fault
-recordFaults room s c =
-    fault 31 (λ at. ltb (length s) (at + 4))
-    ∷ fault 30 (λ at. not (isRecord (kindAt s at) (lengthAt s at) && mayFollow (c .last) (kindAt s at)))
-    ∷ fault 31 (λ at. ltb (length s) (at + 4 + lengthAt s at))
-    ∷ fault 32 (λ at. isFull room (c .had) (kindAt s at))
-    ∷ []
-
-unfoldable pub faultOf : Tally → List ℕ → Cursor → Verdict
-faultOf room s c = says (recordFaults room s c) (c .at)
-
--- any byte after the end
-abbrev pub endFaults : List ℕ → List Fault
-endFaults s =
-    fault 30 (λ at. ltb at (length s))
-    ∷ []
-
 -- ---- reading, from record to record
 
 abbrev pub start : Cursor
 start = record { at = 0; last = 0; had = record { poses = 0; edges = 0; fixed = 0 } }
-
-abbrev pub one : Bool → ℕ
-one b = if-then b 1 0
-
-abbrev pub counted : ℕ → Tally → Tally
-counted kind t =
-    record { poses = t .poses + one (eqb kind 2); edges = t .edges + one (eqb kind 3); fixed = t .fixed + one (eqb kind 4) }
-
--- behind the record at a cursor
-abbrev pub behind : List ℕ → Cursor → Cursor
-behind s c =
-    record { at = c .at + 4 + lengthAt s (c .at); last = kindAt s (c .at); had = counted (kindAt s (c .at)) (c .had) }
-
--- what the record at a cursor leads to: the next one, the end, or a refusal
-abbrev pub closed : Verdict → Step
-closed verdict.Fine = step.Done
-closed (verdict.Refused r) = step.Stop r
-
-abbrev pub stepFrom : List ℕ → Cursor → Verdict → Step
-stepFrom s c (verdict.Refused r) = step.Stop r
-stepFrom s c verdict.Fine = if-then (eqb (kindAt s (c .at)) 5) (closed (says (endFaults s) (c .at + 4))) (step.On (behind s c))
-
-unfoldable pub recordStep : Tally → List ℕ → Cursor → Step
-recordStep room s c = stepFrom s c (faultOf room s c)
 
 -- what the record at a place holds
 abbrev pub numbersIf : Bool → List ℕ → List ℕ
@@ -235,7 +161,7 @@ readGives l (refused r) = (read.Refused r, l)
 unfoldable pub readInto : List ℕ → Space → Read × Space
 readInto s l = readGives l (reading (roomIn l) s)
 
--- ---- the writer: its answer, and the output
+-- ---- the job that settings and lists are
 
 abbrev pub settingNumbers : SettingBits → List ℕ
 settingNumbers t = t .limit ∷ t .«cost_tolerance» ∷ t .«gradient_tolerance» ∷ t .damping ∷ []
@@ -250,21 +176,7 @@ jobOf t l =
       fixed = l .fixed;
     }
 
--- row 2 of poses, ends and edge numbers (no output of poses is asked for), then an output too short
-abbrev pub writeRows : Job → List ℕ → List Row
-writeRows j out =
-    row 2 (unfit (length (j .poses)) (length (j .ends)) (length (j .edges)) (length (j .poses)))
-    ∷ row 36 (ltb (length out) (length (encoded j)))
-    ∷ []
-
-abbrev pub writtenAs : Job → List ℕ → Verdict → Written × List ℕ
-writtenAs j out verdict.Fine = (written.Bytes (length (encoded j)), pasted 0 (encoded j) out)
-writtenAs j out (verdict.Refused r) = (written.Refused r, out)
-
-unfoldable pub writtenInto : Job → List ℕ → Written × List ℕ
-writtenInto j out = writtenAs j out (verdict (writeRows j out))
-
--- ---- for the functions behind the reader and the writer; nothing above rests on it
+-- ---- for the functions behind the reader; nothing above rests on it
 
 -- a cursor that reading can come to: within the bytes, and it counted no more than it passed
 abbrev pub CursorIn : List ℕ → Cursor → Type 0

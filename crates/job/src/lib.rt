@@ -1,16 +1,20 @@
 // The job file: a reader and a writer over lent slices (document 02, Wish 1). Floats cross as their bit patterns, so that a NaN keeps its bits.
 ghost use mathlib.Core.Path.{_≡_};
-ghost use mathlib.Core.List.{_++_};
 ghost use Prim.Native.Nat.{_+_, _*_, _/_, _<_, _≤_, _^_, min};
-ghost use lib.Dec.{ltb};
 ghost use lib.ListN.{length};
 ghost use Rattle.numbers.specs.Notation.{was, became};
-ghost use Rattle.numbers.specs.Refusals.{refusal, says};
+ghost use Rattle.job_records.specs.Bytes.{valueAt, valuesAt, pasted, bytesOf, bytesFrom};
+ghost use Rattle.job.specs.Format.{scannedAs, IsTaken, taking, filledBy, start as Format·start, reading, settingsFrom, space, roomIn, readInto};
+ghost use Rattle.job.specs.Format.{settingsRecord, poseRecord, edgeRecord, fixedRecord, encoded, sizeOf, settingNumbers, jobOf, tallyOf};
+ghost use Rattle.job_records.specs.Records.{kindAt, faultOf};
+ghost use mathlib.Core.List.{_++_};
+ghost use lib.Dec.{ltb};
+ghost use Rattle.numbers.specs.Refusals.{refusal};
 ghost use Rattle.numbers.specs.Walks.{strung};
-ghost use Rattle.job.specs.Bytes.{valueAt, valuesAt, bytesOf, bytesFrom, pasted};
-ghost use Rattle.job.specs.Format.{settingsRecord, poseRecord, edgeRecord, fixedRecord, encoded, sizeOf, scannedAs, IsTaken, taking, filledBy};
-ghost use Rattle.job.specs.Format.{isRecord, mayFollow, isFull, faultOf, endFaults, closed, one, counted, recordStep, CursorIn};
-ghost use Rattle.job.specs.Format.{start as Format·start, reading, settingsFrom, settingNumbers, jobOf, tallyOf, space, roomIn, readInto, writtenInto};
+ghost use Rattle.job.specs.Writer.{writtenInto};
+use job_records::Cursor;
+use job_records::Step;
+use job_records::Tally;
 use numbers::Refusal;
 use numbers::Verdict;
 
@@ -20,27 +24,6 @@ pub struct SettingBits {
     pub cost_tolerance: u32,
     pub gradient_tolerance: u32,
     pub damping: u32,
-}
-
-// How many poses, edges and fixed entries there are, or there is room for.
-pub struct Tally {
-    pub poses: usize,
-    pub edges: usize,
-    pub fixed: usize,
-}
-
-// Where reading stands: the place at which a record starts or should, the kind of the record before (0 where there is none), what was counted.
-pub struct Cursor {
-    pub at: usize,
-    pub last: u64,
-    pub had: Tally,
-}
-
-// What a record leads to.
-pub enum Step {
-    On(Cursor),
-    Done,
-    Stop(Refusal),
 }
 
 pub enum Scanned {
@@ -60,18 +43,6 @@ pub enum Written {
 
 // ---- numbers in bytes
 
-fn wide8(x: u8) -> u64
-    ensures { λ r. ⌜ (r ≡ x) × (r < 256) ⌝ }
-{
-    x as u64
-}
-
-fn wide32(x: u32) -> u64
-    ensures { λ r. ⌜ r ≡ x ⌝ }
-{
-    x as u64
-}
-
 // The number of the w bytes of s from `at` on, the low byte first.
 fn value_at(s: &[u8], at: usize, w: usize) -> u64
     requires { ⌜ (at + w ≤ length (now s)) × (w ≤ 8) ⌝ }
@@ -81,7 +52,7 @@ fn value_at(s: &[u8], at: usize, w: usize) -> u64
     let mut r: u64 = 0;
     while i > 0 {
         i -= 1;
-        r = r * 256 + wide8(s[at + i]);
+        r = r * 256 + job_records::wide8(s[at + i]);
     }
     r
 }
@@ -119,142 +90,6 @@ fn take32(s: &[u8], at: usize, to: &mut [u32], from: usize, n: usize)
     }
 }
 
-// Puts x into out from `at` on, as w bytes.
-fn put(out: &mut [u8], at: usize, x: u64, w: usize)
-    requires { ⌜ at + w ≤ length (now out) ⌝ }
-    ensures { λ _. ⌜ became out ≡ pasted at (bytesOf w x) (was out) ⌝ }
-{
-    let mut i = 0usize;
-    let mut rest = x;
-    while i < w {
-        out[at + i] = (rest % 256) as u8;
-        rest /= 256;
-        i += 1;
-    }
-}
-
-// Puts n numbers of ns, from `from` on, into out from `at` on, eight bytes each.
-fn put64(out: &mut [u8], at: usize, ns: &[u64], from: usize, n: usize)
-    requires { ⌜ (at + 8 * n ≤ length (now out)) × (from + n ≤ length (now ns)) ⌝ }
-    ensures { λ _. ⌜ became out ≡ pasted at (bytesFrom 8 n (was ns) from) (was out) ⌝ }
-{
-    let mut i = 0usize;
-    while i < n {
-        put(out, at + 8 * i, ns[from + i], 8);
-        i += 1;
-    }
-}
-
-// The same, four bytes each.
-fn put32(out: &mut [u8], at: usize, ns: &[u32], from: usize, n: usize)
-    requires { ⌜ (at + 4 * n ≤ length (now out)) × (from + n ≤ length (now ns)) ⌝ }
-    ensures { λ _. ⌜ became out ≡ pasted at (bytesFrom 4 n (was ns) from) (was out) ⌝ }
-{
-    let mut i = 0usize;
-    while i < n {
-        let x = wide32(ns[from + i]);
-        put(out, at + 4 * i, x, 4);
-        i += 1;
-    }
-}
-
-// ---- which fault a record has
-
-fn is_record(kind: u64, len: u64) -> bool
-    ensures { λ r. ⌜ r ≡ isRecord kind len ⌝ }
-{
-    ((kind == 1) & (len == 16))
-        | (((kind == 2) & (len == 96))
-            | (((kind == 3) & (len == 40))
-                | (((kind == 4) & (len == 4)) | ((kind == 5) & (len == 0)))))
-}
-
-fn may_follow(last: u64, kind: u64) -> bool
-    ensures { λ r. ⌜ r ≡ mayFollow last kind ⌝ }
-{
-    if last == 0 {
-        return kind == 1;
-    }
-    (kind != 1) & (last <= kind)
-}
-
-fn is_full(room: Tally, had: Tally, kind: u64) -> bool
-    ensures { λ r. ⌜ r ≡ isFull room had kind ⌝ }
-{
-    ((kind == 2) & (room.poses <= had.poses))
-        | (((kind == 3) & (room.edges <= had.edges)) | ((kind == 4) & (room.fixed <= had.fixed)))
-}
-
-fn stop(number: u32, place: usize) -> Step
-    ensures { λ r. ⌜ r ≡ Step.Stop (refusal number place) ⌝ }
-{
-    Step::Stop(Refusal { number, place })
-}
-
-// Behind the end record nothing may stand.
-fn close(s: &[u8], at: usize) -> Step
-    ensures { λ r. ⌜ r ≡ closed (says (endFaults (was s)) at) ⌝ }
-{
-    if at < s.len() {
-        return stop(30, at);
-    }
-    Step::Done
-}
-
-fn one_more(t: usize, more: bool) -> usize
-    requires { ⌜ t < 2 ^ 63 ⌝ }
-    ensures { λ r. ⌜ r ≡ t + one more ⌝ }
-{
-    if more {
-        return t + 1;
-    }
-    t
-}
-
-fn count(kind: u64, had: Tally) -> Tally
-    requires { ⌜ (had .poses < 2 ^ 63) × (had .edges < 2 ^ 63) × (had .fixed < 2 ^ 63) ⌝ }
-    ensures { λ r. ⌜ r ≡ counted kind had ⌝ }
-{
-    Tally {
-        poses: one_more(had.poses, kind == 2),
-        edges: one_more(had.edges, kind == 3),
-        fixed: one_more(had.fixed, kind == 4),
-    }
-}
-
-// The record at c: a cut header, then a bad length, kind or order, a cut body, one too many; else what stands behind it.
-fn step_at(room: Tally, s: &[u8], c: Cursor) -> Step
-    requires { ⌜ CursorIn (now s) c ⌝ }
-    ensures { λ r. ⌜ r ≡ recordStep room (was s) c ⌝ }
-{
-    let at = c.at;
-    let had = c.had;
-    let left = s.len() - at;
-    if left < 4 {
-        return stop(31, at);
-    }
-    let len = value_at(s, at, 2);
-    let kind = value_at(s, at + 2, 2);
-    if !(is_record(kind, len) & may_follow(c.last, kind)) {
-        return stop(30, at);
-    }
-    let n = len as usize;
-    if left - 4 < n {
-        return stop(31, at);
-    }
-    if is_full(room, had, kind) {
-        return stop(32, at);
-    }
-    if kind == 5 {
-        return close(s, at + 4);
-    }
-    Step::On(Cursor {
-        at: at + 4 + n,
-        last: kind,
-        had: count(kind, had),
-    })
-}
-
 // ---- reading: the records are gone through once to see whether the job is taken, and once more to take it
 
 fn start() -> Cursor
@@ -276,7 +111,7 @@ fn scan(room: Tally, s: &[u8]) -> Scanned
 {
     let mut c = start();
     loop {
-        match step_at(room, s, c) {
+        match job_records::step_at(room, s, c) {
             Step::On(d) => {
                 c = d;
             }
@@ -291,21 +126,22 @@ fn scan(room: Tally, s: &[u8]) -> Scanned
     }
 }
 
-// What the record at c holds goes behind what was taken before.
+// What the record at c, of a kind, holds goes behind what was taken before.
 fn take_record(
     s: &[u8],
     c: Cursor,
+    kind: u64,
     poses: &mut [u64],
     ends: &mut [u32],
     edges: &mut [u32],
     fixed: &mut [u32],
 )
-    requires { ⌜ (CursorIn (now s) c) × (faultOf (roomIn (space (now poses) (now ends) (now edges) (now fixed))) (now s) c ≡ Verdict.Fine) ⌝ }
-    ensures { λ _. ⌜ space (became poses) (became ends) (became edges) (became fixed) ≡ taking (was s) c (space (was poses) (was ends) (was edges) (was fixed)) ⌝ }
+    requires { ⌜ (kind ≡ kindAt (now s) (c .at)) × (faultOf (roomIn (space (now poses) (now ends) (now edges) (now fixed))) (now s) c ≡ Verdict.Fine) ⌝ }
+    ensures { λ _. ⌜ space (became poses) (became ends) (became edges) (became fixed) ≡
+        taking (was s) c (space (was poses) (was ends) (was edges) (was fixed)) ⌝ }
 {
     let at = c.at;
     let had = c.had;
-    let kind = value_at(s, at + 2, 2);
     if kind == 2 {
         take64(s, at + 4, poses, 12 * had.poses, 12);
         return;
@@ -329,13 +165,14 @@ fn take_records(
     fixed: &mut [u32],
 )
     requires { ⌜ (room ≡ roomIn (space (now poses) (now ends) (now edges) (now fixed))) × IsTaken (reading room (now s)) ⌝ }
-    ensures { λ _. ⌜ space (became poses) (became ends) (became edges) (became fixed) ≡ filledBy (reading room (was s)) (space (was poses) (was ends) (was edges) (was fixed)) ⌝ }
+    ensures { λ _. ⌜ space (became poses) (became ends) (became edges) (became fixed) ≡
+        filledBy (reading room (was s)) (space (was poses) (was ends) (was edges) (was fixed)) ⌝ }
 {
     let mut c = start();
     loop {
-        match step_at(room, s, c) {
+        match job_records::step_at(room, s, c) {
             Step::On(d) => {
-                take_record(s, c, poses, ends, edges, fixed);
+                take_record(s, c, d.last, poses, ends, edges, fixed);
                 c = d;
             }
             Step::Done => {
@@ -387,7 +224,8 @@ pub fn read_job(
     edges: &mut [u32],
     fixed: &mut [u32],
 ) -> Read
-    ensures { λ r. ⌜ (r, space (became poses) (became ends) (became edges) (became fixed)) ≡ readInto (was bytes) (space (was poses) (was ends) (was edges) (was fixed)) ⌝ }
+    ensures { λ r. ⌜ (r, space (became poses) (became ends) (became edges) (became fixed)) ≡
+        readInto (was bytes) (space (was poses) (was ends) (was edges) (was fixed)) ⌝ }
 {
     let room = room_in(poses.len(), ends.len(), edges.len(), fixed.len());
     match scan(room, bytes) {
@@ -400,6 +238,53 @@ pub fn read_job(
 }
 
 // ---- writing
+
+fn wide32(x: u32) -> u64
+    ensures { λ r. ⌜ r ≡ x ⌝ }
+{
+    x as u64
+}
+
+// Puts x into out from `at` on, as w bytes.
+fn put(out: &mut [u8], at: usize, x: u64, w: usize)
+    requires { ⌜ at + w ≤ length (now out) ⌝ }
+    ensures { λ _. ⌜ became out ≡ pasted at (bytesOf w x) (was out) ⌝ }
+{
+    let mut i = 0usize;
+    let mut rest = x;
+    while i < w {
+        out[at + i] = (rest % 256) as u8;
+        rest /= 256;
+        i += 1;
+    }
+}
+
+// Puts n numbers of ns, from `from` on, into out from `at` on, eight bytes each.
+fn put64(out: &mut [u8], at: usize, ns: &[u64], from: usize, n: usize)
+    requires { ⌜ (at + 8 * n ≤ length (now out)) × (from + n ≤ length (now ns)) ⌝ }
+    ensures { λ _. ⌜ became out ≡ pasted at (bytesFrom 8 n (was ns) from) (was out) ⌝ }
+{
+    let mut i = 0usize;
+    while i < n {
+        put(out, at + 8 * i, ns[from + i], 8);
+        i += 1;
+    }
+}
+
+// The same, four bytes each.
+fn put32(out: &mut [u8], at: usize, ns: &[u32], from: usize, n: usize)
+    requires { ⌜ (at + 4 * n ≤ length (now out)) × (from + n ≤ length (now ns)) ⌝ }
+    ensures { λ _. ⌜ became out ≡ pasted at (bytesFrom 4 n (was ns) from) (was out) ⌝ }
+{
+    let mut i = 0usize;
+    while i < n {
+        let x = wide32(ns[from + i]);
+        put(out, at + 4 * i, x, 4);
+        i += 1;
+    }
+}
+
+// ---- records
 
 // The length of a record's body, and its kind.
 fn put_header(out: &mut [u8], at: usize, len: u64, kind: u64)
@@ -484,7 +369,8 @@ fn put_job(
     fixed: &[u32],
     out: &mut [u8],
 ) -> usize
-    requires { ⌜ (had ≡ tallyOf (jobOf t (space (now poses) (now ends) (now edges) (now fixed)))) × (8 * had .edges ≤ length (now edges)) × (sizeOf had ≤ length (now out)) ⌝ }
+    requires { ⌜ (had ≡ tallyOf (jobOf t (space (now poses) (now ends) (now edges) (now fixed)))) ×
+        (8 * had .edges ≤ length (now edges)) × (sizeOf had ≤ length (now out)) ⌝ }
     ensures { λ r. ⌜ (r ≡ sizeOf had) × (became out ≡ pasted 0 (encoded (jobOf t (space (was poses) (was ends) (was edges) (was fixed)))) (was out)) ⌝ }
 {
     let p = had.poses;

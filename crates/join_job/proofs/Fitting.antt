@@ -30,8 +30,9 @@ use Rattle.sparse_pgo.specs.Numerics.{partsOn}
 use Rattle.sparse_pgo.specs.Optimize.{ran, given, afterChecks, optimized}
 use Rattle.sparse_pgo.specs.declared.Answer.{Answer}
 use Rattle.sparse_pgo.specs.declared.Answer.the-variants as answer
-use Rattle.job.specs.Format.{Job, Space, space, tallyOf, settingsFrom, Reading, taken, refused, reading, sizeOf, writtenInto}
-use Rattle.job.specs.declared.Tally.{Tally}
+use Rattle.job.specs.Format.{Job, Space, space, tallyOf, settingsFrom, Reading, taken, refused, reading, sizeOf}
+use Rattle.job.specs.Writer.{writtenInto}
+use Rattle.job_records.specs.declared.Tally.{Tally}
 use Rattle.job.specs.declared.SettingBits.{SettingBits}
 use Rattle.job.specs.declared.Written.{Written}
 use Rattle.job.specs.declared.Written.the-variants as written

@@ -11,10 +11,11 @@ use lib.Ieee.{binary64}
 use Rattle.numbers.specs.declared.Refusal.{Refusal}
 use Rattle.sparse_pgo.specs.declared.Joined.{Joined}
 use Rattle.printable.specs.declared.Printable.{Printable}
-use Rattle.job.specs.Bytes.{pasted}
+use Rattle.job_records.specs.Bytes.{pasted}
 use Rattle.job.specs.Format.{Job, Space, space, roomIn, filled, Reading, taken, refused, reading}
-use Rattle.job.specs.Format.{settingsFrom, settingNumbers, readGives, readInto, jobOf, writtenInto}
-use Rattle.job.specs.declared.Tally.{Tally}
+use Rattle.job.specs.Format.{settingsFrom, settingNumbers, readGives, readInto, jobOf}
+use Rattle.job.specs.Writer.{writtenInto}
+use Rattle.job_records.specs.declared.Tally.{Tally}
 use Rattle.job.specs.declared.SettingBits.{SettingBits}
 use Rattle.job.specs.declared.Read.{Read}
 use Rattle.job.specs.declared.Read.the-variants as read

@@ -1,16 +1,12 @@
--- Which patterns are a NaN's, and lists that are filled from another, number by number. Assumes nothing.
-use Prim.Native.Nat.{ℕ, zero, suc, _*_, _%_, _<_, _≤_}
+-- Lists that are filled from another, number by number, and what a run over work of zeros gives. Assumes nothing.
+use Prim.Native.Nat.{ℕ, zero, suc, _<_, _≤_}
 use native.Mathlib.Omega.{arith}
 use mathlib.Core.Path.{_≡_, refl, sym, ap, subst, _∙_}
 use native.Mathlib.Nat.{zero-add}
-use mathlib.Core.Bool.{true, not}
 use mathlib.Core.List.{List, map, _∷_, _++_}
-use borrow.Author.Tests.{lt-ltb, le-ltb}
-use lib.Dec.{T}
 use lib.ListN.{length, getD, take, drop, replicate, length-map, length-replicate, List·getD-map}
 use lib.Seq.{ext-getD, getD-take, length-take-le, length-front, take-at}
-use lib.Ieee.{Float, nan, inf, fin, Format, hid, ones, top, isNan, ofBits, ofFields, odd, div, binary32, binary64, nanBits, toBits, round}
-use lib.Ieee.Bits.{nanBits-is, nanBits-above}
+use lib.Ieee.{Float, nan, ofBits, ofFields, odd, div, binary32, binary64, toBits, round}
 use Rattle.numbers.specs.Notation.{num, ratio}
 use Rattle.checks.specs.Input.{lent}
 use Rattle.graph.specs.declared.Manifold.the-variants.{Se3}
@@ -19,40 +15,18 @@ use Rattle.sparse_pgo.specs.Optimize.{After, optimized}
 use Rattle.job.specs.declared.SettingBits.{SettingBits}
 use Rattle.job.specs.Format.{Space}
 use Rattle.sparse_pgo.specs.declared.Answer.{Answer}
-use Rattle.join_job.specs.Joining.{floats, settingsAs, ranOver, runOf, judgedAs, judgedOver, judgedOf}
+use Rattle.job_terms.specs.Terms.{settingsAs}
+use Rattle.join_job.specs.Joining.{floats, ranOver, runOf, judgedAs, judgedOver, judgedOf}
 use Rattle.numbers.proofs.Filling.{getD-within}
 use Rattle.numbers.proofs.Laying.{Laid}
-
-pub nan-of : (f : Format) (n : ℕ) → ones f * hid f < n % top f → nan ≡ ofBits f n
-unfolding isNan
-nan-of f n h = sym (go (ofBits f n) (sym (nanBits-is f n) ∙ (nanBits-above f n ∙ lt-ltb (ones f * hid f) (n % top f) h)))
-  where
-    go : (x : Float) → isNan x ≡ true → x ≡ nan
-    go nan e = refl
-    go (inf s) e = absurd (let y : _≡_ {A = ℕ} 0 1 = cc in omega arith)
-    go (fin s m k) e = absurd (let y : _≡_ {A = ℕ} 0 1 = cc in omega arith)
-
-pub not-nan : (f : Format) (n : ℕ) → n % top f ≤ ones f * hid f → T (not (nanBits f n))
-not-nan f n h = rw (nanBits-above f n, le-ltb (ones f * hid f) (n % top f) h) tt
 
 pub nan64 : div binary64 (ofBits binary64 0) (ofBits binary64 0) ≡ nan
 unfolding div ofBits ofFields odd
 nan64 = refl
 
-pub nan32 : div binary32 (ofBits binary32 0) (ofBits binary32 0) ≡ nan
-unfolding div ofBits ofFields odd
-nan32 = refl
-
 pub nan-bits : 0x7ff8_0000_0000_0000 ≡ toBits binary64 nan
 unfolding toBits
 nan-bits = refl
-
--- each setting is the job's own: limit 3, tolerances 1 and 2, damping 4
-settings-as :
-    settingsAs (record { limit = 3; «cost_tolerance» = 0x3f80_0000; «gradient_tolerance» = 0x4000_0000; damping = 0x4080_0000 })
-    ≡ record { limit = 3; «cost_tolerance» = num 1; «gradient_tolerance» = num 2; damping = num 4 }
-unfolding ofBits ofFields odd ratio round
-settings-as = refl
 
 -- what a run over work of zeros gives
 pub over-is : (t : SettingBits) (poses : List Float) (ends : List ℕ) (edges : List Float) (fixed : List ℕ) (out work32 work64 : List Float)

@@ -1,29 +1,28 @@
 -- A job's run: document 02, Wish 1, "A job means a DOF 6 run". What was read is run by `optimized`, every setting as it stands in the job, and where that
--- succeeds it is judged as a scan is (Wish 2) and the job is written again with the new poses. A job's patterns become floats, and floats patterns, here and
--- nowhere else. Definitions only.
-use Prim.Native.Nat.{ℕ, _/_}
+-- succeeds it is judged as a scan is (Wish 2) and the job is written again with the new poses. The patterns of a job's poses and
+-- edges become floats, and floats patterns, here and nowhere else; those of its settings in `Terms` of job_terms. Definitions only.
+use Prim.Native.Nat.{ℕ}
 use mathlib.Core.List.{List, [], _++_, map}
 use lib.ListN.{length, replicate}
 use lib.Ieee.{Float, Format, binary32, binary64, ofBits, toBits}
 use Rattle.numbers.specs.Notation.{num}
-use Rattle.graph.specs.Lent.{poseAt}
-use Rattle.checks.specs.Input.{lent, lentGraph}
+use Rattle.checks.specs.Input.{lent}
 use Rattle.graph.specs.declared.Manifold.the-variants.{Se3}
-use Rattle.rows.specs.declared.Settings.{Settings}
 use Rattle.sparse_pgo.specs.Optimize.{After, optimized}
 use Rattle.sparse_pgo.specs.declared.Joined.{Joined}
 use Rattle.sparse_pgo.specs.declared.Answer.{Answer}
 use Rattle.sparse_pgo.specs.declared.Answer.the-variants as answer
-use Rattle.job.specs.Format.{Job, Space, space, Reading, taken, refused, reading, settingsFrom, writtenInto}
-use Rattle.job.specs.declared.Tally.{Tally}
+use Rattle.job.specs.Format.{Job, Space, space, Reading, taken, refused, reading, settingsFrom}
+use Rattle.job.specs.Writer.{writtenInto}
+use Rattle.job_records.specs.declared.Tally.{Tally}
 use Rattle.job.specs.declared.SettingBits.{SettingBits}
 use Rattle.job.specs.declared.Written.{Written}
 use Rattle.job.specs.declared.Written.the-variants as written
-use Rattle.printable.specs.Printing.{printingRun}
 use Rattle.printable.specs.declared.Printable.{Printable}
 use Rattle.printable.specs.declared.Printable.the-variants as printable
 use Rattle.line.specs.Text.{ascii, decimal, ranText, refusedText}
 use Rattle.line.specs.FloatText.{floatText}
+use Rattle.job_terms.specs.Terms.{settingsAs, printableAfter}
 use Rattle.join_job.specs.declared.Judged.{Judged}
 use Rattle.join_job.specs.declared.Judged.the-variants as judged
 use Rattle.join_job.specs.declared.Report.{Report}
@@ -36,15 +35,6 @@ floats f ns = map (ofBits f) ns
 
 abbrev pub patterns : Format → List Float → List ℕ
 patterns f xs = map (toBits f) xs
-
-abbrev pub settingsAs : SettingBits → Settings
-settingsAs t =
-    record {
-      limit = t .limit;
-      «cost_tolerance» = ofBits binary32 (t .«cost_tolerance»);
-      «gradient_tolerance» = ofBits binary32 (t .«gradient_tolerance»);
-      damping = ofBits binary32 (t .damping);
-    }
 
 -- ---- the run
 
@@ -66,8 +56,7 @@ jobRun j = runOf (settingsFrom (j .settings)) (space (j .poses) (j .ends) (j .ed
 
 -- at the poses given and at those that came out
 unfoldable pub printableOf : ℕ → List Float → List ℕ → List Float → List Float → Joined → Printable
-printableOf limit poses ends edges new j =
-    printingRun (j .converged) (j .iterations) limit Se3 (length poses / 12) (lentGraph [] ends edges []) (poseAt poses) (poseAt new)
+printableOf limit poses ends edges new j = printableAfter (j .converged) (j .iterations) limit poses ends edges new
 
 abbrev pub judgedAs : ℕ → List Float → List ℕ → List Float → List Float → Answer → Judged
 judgedAs limit poses ends edges new (answer.Refused r) = judged.Refused r

@@ -11,17 +11,15 @@ ghost use Rattle.job.specs.Format.{space, jobOf, sizeOf, readAtMost};
 ghost use Rattle.printable.specs.declared.Printable.the-variants as printable;
 ghost use Rattle.line.specs.Text.{ascii, lineOf};
 ghost use Rattle.line.specs.FloatText.{floatText};
-ghost use Rattle.join_job.specs.Joining.{floats, patterns, settingsAs, ranOver, runOf, printableOf, judgedOver, judgedOf, joinedWith, joinedInto};
+ghost use Rattle.join_job.specs.Joining.{floats, patterns, ranOver, runOf, judgedOver, judgedOf, joinedWith, joinedInto};
 ghost use Rattle.join_job.specs.Joining.{reportOf, reportText, printableText, secondText, smallRoom, fullRoom};
-use graph::Manifold;
 use job::Read;
 use job::SettingBits;
-use job::Tally;
 use job::Written;
+use job_records::Tally;
 use line::Line;
 use numbers::Refusal;
 use printable::Printable;
-use rows::Settings;
 use sparse_pgo::Answer;
 use sparse_pgo::Joined;
 
@@ -52,15 +50,6 @@ fn double_of(bits: u64) -> f64
         return 0.0 / 0.0;
     }
     f64::from_bits(bits)
-}
-
-fn single_of(bits: u32) -> f32
-    ensures { λ r. ⌜ r ≡ ofBits binary32 bits ⌝ }
-{
-    if 0x7f80_0000 < bits % 0x8000_0000 {
-        return 0.0 / 0.0;
-    }
-    f32::from_bits(bits)
 }
 
 fn bits_of(x: f64) -> u64
@@ -106,7 +95,7 @@ fn singles(from: &[u32]) -> [f32; 8192]
     let mut to = blank_singles();
     let mut i = 0usize;
     while i < from.len() {
-        to[i] = single_of(from[i]);
+        to[i] = job_terms::single_of(from[i]);
         i += 1;
     }
     to
@@ -120,17 +109,6 @@ fn bits(from: &[f64], to: &mut [u64])
     while i < to.len() {
         to[i] = bits_of(from[i]);
         i += 1;
-    }
-}
-
-fn settings_of(t: SettingBits) -> Settings
-    ensures { λ r. ⌜ r ≡ settingsAs t ⌝ }
-{
-    Settings {
-        limit: t.limit,
-        cost_tolerance: single_of(t.cost_tolerance),
-        gradient_tolerance: single_of(t.gradient_tolerance),
-        damping: single_of(t.damping),
     }
 }
 
@@ -155,26 +133,11 @@ fn run_over(
         ends,
         edges,
         fixed,
-        settings_of(t),
+        job_terms::settings_of(t),
         &mut work32,
         &mut work64,
         out,
     )
-}
-
-fn printable_of(
-    limit: u32,
-    poses: &[f64],
-    ends: &[u32],
-    edges: &[f32],
-    new: &[f64],
-    j: Joined,
-) -> Printable
-    ensures { λ r. ⌜ r ≡ printableOf limit (was poses) (was ends) (was edges) (was new) j ⌝ }
-{
-    let m = printable::measures_at(poses, new, ends, edges);
-    let cosine = printable::min_gravity_cosine(Manifold::Se3, poses, new);
-    printable::may_be_printed(j.converged, j.iterations, limit, cosine, m)
 }
 
 // The run, and whether what came out may be printed.
@@ -192,7 +155,10 @@ fn judge_over(
     let a = run_over(t, poses, ends, edges, fixed, out);
     match a {
         Answer::Refused(r) => Judged::Refused(r),
-        Answer::Joined(j) => Judged::Ran(j, printable_of(t.limit, poses, ends, edges, out, j)),
+        Answer::Joined(j) => Judged::Ran(
+            j,
+            job_terms::printable_of(j.converged, j.iterations, t.limit, poses, ends, edges, out),
+        ),
     }
 }
 

@@ -15,7 +15,7 @@ use Rattle.sparse_pgo.specs.declared.Answer.{Answer}
 use Rattle.sparse_pgo.specs.declared.Answer.the-variants as answer
 use Rattle.printable.specs.declared.Measures.{Measures}
 use Rattle.job.specs.declared.SettingBits.{SettingBits}
-use Rattle.job.specs.declared.Tally.{Tally}
+use Rattle.job_records.specs.declared.Tally.{Tally}
 use Rattle.job.specs.declared.Read.{Read}
 use Rattle.job.specs.declared.Read.the-variants as read
 use Rattle.job.specs.declared.Written.{Written}

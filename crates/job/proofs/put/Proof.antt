@@ -3,7 +3,7 @@ use native.Mathlib.Omega.{arith}
 use native.Mathlib.Numerals.{add-one}
 use mathlib.Core.Path.{_≡_, refl, sym}
 use lib.ListN.{length, length-set}
-use Rattle.job.specs.Bytes.{bytesOf, pasted}
+use Rattle.job_records.specs.Bytes.{bytesOf, pasted}
 use Rattle.job.proofs.Pasting.{pasted-none}
 use Rattle.job.proofs.Encoding.{shifted, shifted-more}
 use Rattle.job.proofs.Writing.{byte-put}

@@ -4,7 +4,7 @@ use mathlib.Core.Path.{_≡_, refl, sym, _∙_}
 use denote.Ref.{now}
 use lib.ListN.{length}
 use Rattle.numbers.specs.Walks.{strung}
-use Rattle.job.specs.Bytes.{bytesFrom, pasted}
+use Rattle.job_records.specs.Bytes.{bytesFrom, pasted}
 use Rattle.job.proofs.Pasting.{pasted-none}
 use Rattle.job.proofs.Writing.{turn-fits, number-put}
 use Rattle.job.proofs.put64.Statement.{statement}

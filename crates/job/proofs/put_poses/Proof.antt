@@ -5,7 +5,7 @@ use mathlib.Core.Path.{_≡_, refl, sym, _∙_}
 use denote.Ref.{now}
 use lib.ListN.{length}
 use Rattle.numbers.specs.Walks.{strung}
-use Rattle.job.specs.Bytes.{pasted}
+use Rattle.job_records.specs.Bytes.{pasted}
 use Rattle.job.specs.Format.{poseRecord}
 use Rattle.job.proofs.Pasting.{pasted-none}
 use Rattle.job.proofs.Writing.{turn-fits, pose-put}

@@ -21,7 +21,7 @@ loop-holds : tie.Need-loop-holds Inv-loop μ-loop
 loop-holds c = let a = c .before .before .args in subst (Seen (a .room) (now (a .s))) (sym (c .start .ensures)) (seen-start (a .room) (now (a .s)))
 
 step-at-requires : tie.Need-step-at-requires Inv-loop μ-loop
-step-at-requires c κs = c .loop .inv .cursor
+step-at-requires c κs = tt
 
 enum-known-d : tie.Need-enum-known-d Inv-loop μ-loop
 enum-known-d c = search needs

@@ -4,7 +4,7 @@ use denote.Ref.{now}
 use mathlib.Core.Path.{sym, subst, _∙_}
 use borrow.Author.Needs.{needs}
 use lib.ListN.{length}
-use Rattle.job.specs.declared.Cursor.{Cursor}
+use Rattle.job_records.specs.declared.Cursor.{Cursor}
 use Rattle.job.specs.Format.{space}
 use Rattle.job.proofs.Held.{Held, seen-less, held-start, held-on, held-done, same-lengths, may-take, never-stops}
 use Rattle.job.proofs.take_records.Statement.{statement}
@@ -27,7 +27,7 @@ loop-holds c =
     (held-start (z .args .room) (now (z .args .s)) l (z .pre .0))
 
 step-at-requires : tie.Need-step-at-requires Inv-loop μ-loop
-step-at-requires c κs = c .loop .inv .seen .cursor
+step-at-requires c κs = tt
 
 enum-known-d : tie.Need-enum-known-d Inv-loop μ-loop
 enum-known-d c = search needs

@@ -1,6 +1,7 @@
 use mathlib.Core.Path.{_∙_}
 use lib.Ieee.{binary64}
-use Rattle.join_job.proofs.Patterns.{nan-of, not-nan, nan64}
+use Rattle.job_terms.proofs.Patterns.{nan-of, not-nan}
+use Rattle.join_job.proofs.Patterns.{nan64}
 use borrow.Author.Needs.{needs}
 use Rattle.join_job.proofs.double_of.Statement.{statement}
 use Rattle.join_job.proofs.double_of.Tie as tie

@@ -1,6 +1,7 @@
 -- The run's answer is judged at the poses that it gave. Assumes nothing.
 use mathlib.Core.Path.{sym, _∙_}
 use denote.Ref.{now}
+use Rattle.join_job.specs.Joining.{printableOf}
 use Rattle.join_job.proofs.Patterns.{judged-as}
 use borrow.Author.Needs.{needs}
 use Rattle.join_job.proofs.judge_over.Statement.{statement}
@@ -35,6 +36,7 @@ same-length-2 : tie.Need-same-length-2
 same-length-2 c = search needs
 
 returns-2 : tie.Need-returns-2
+unfolding printableOf
 returns-2 c =
     let x = c .before .before .before .before .before .before .before in
     let run = x .run-over in

@@ -1,7 +1,7 @@
--- `job::count` meets its contract. Assumes nothing.
+-- `job_records::count` meets its contract. Assumes nothing.
 use borrow.Author.Needs.{needs}
-use Rattle.job.proofs.count.Statement.{statement}
-use Rattle.job.proofs.count.Tie as tie
+use Rattle.job_records.proofs.count.Statement.{statement}
+use Rattle.job_records.proofs.count.Tie as tie
 
 one-more-requires : tie.Need-one-more-requires
 one-more-requires c κs = search needs

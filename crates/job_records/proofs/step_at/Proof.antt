@@ -1,26 +1,28 @@
--- `job::step_at` meets its contract, by one law of `Stepping` for each return. Assumes nothing.
-use Rattle.job.proofs.Faults.{cut-head, misplaced, cut-body, too-many, ended, onwards}
+-- `job_records::step_at` meets its contract, by one law of `Faults` for each return. Assumes nothing.
+use native.Mathlib.Omega.{arith}
+use mathlib.Core.Path.{sym, _∙_}
+use Rattle.job_records.proofs.Faults.{cut-head, misplaced, cut-body, too-many, ended, onwards, count-fits}
 use borrow.Author.Needs.{needs}
-use Rattle.job.proofs.step_at.Statement.{statement}
-use Rattle.job.proofs.step_at.Tie as tie
+use Rattle.job_records.proofs.step_at.Statement.{statement}
+use Rattle.job_records.proofs.step_at.Tie as tie
 
-sub-left : tie.Need-sub-left
-sub-left c = search needs
+left-from-requires : tie.Need-left-from-requires
+left-from-requires c κs = tt
 
 stop-requires : tie.Need-stop-requires
 stop-requires c κs = search needs
 
 returns : tie.Need-returns
-returns c = cut-head _ _ _ _ (c .before .before .before .before .pre .0) (c .before .if1 .taken) (c .stop .ensures)
+returns c = cut-head _ _ _ _ _ (c .before .before .left-from .ensures) (c .before .if1 .taken) (c .stop .ensures)
 
-value-at-requires : tie.Need-value-at-requires
-value-at-requires c κs = search needs
+pair-at-requires : tie.Need-pair-at-requires
+pair-at-requires c κs = search needs
 
-add-value-at : tie.Need-add-value-at
-add-value-at c = search needs
+add-pair-at : tie.Need-add-pair-at
+add-pair-at c = search needs
 
-value-at-requires-2 : tie.Need-value-at-requires-2
-value-at-requires-2 c κs = search needs
+pair-at-requires-2 : tie.Need-pair-at-requires-2
+pair-at-requires-2 c κs = search needs
 
 is-record-requires : tie.Need-is-record-requires
 is-record-requires c κs = search needs
@@ -35,8 +37,8 @@ returns-2 : tie.Need-returns-2
 returns-2 c =
     let m = c .before .before in
     let v = m .before .before in
-    misplaced _ _ _ _ (v .before .before .before .before .before .pre .0) (v .before .before .if1 .left) _ _ _ _
-    (v .before .value-at .ensures .0, v .value-at2 .ensures .0, m .before .is-record .ensures, m .may-follow .ensures)
+    misplaced _ _ _ _ _ (v .before .before .before .left-from .ensures) (v .before .before .if1 .left) _ _ _ _
+    (v .before .pair-at .ensures, v .pair-at2 .ensures, m .before .is-record .ensures, m .may-follow .ensures)
     (c .before .if2 .taken) (c .stop2 .ensures)
 
 stop-requires-3 : tie.Need-stop-requires-3
@@ -46,8 +48,8 @@ returns-3 : tie.Need-returns-3
 returns-3 c =
     let m = c .before .before .before in
     let v = m .before .before in
-    cut-body _ _ _ _ (v .before .before .before .before .before .pre .0) (v .before .before .if1 .left) _ _ _ _
-    (v .before .value-at .ensures .0, v .value-at2 .ensures .0, m .before .is-record .ensures, m .may-follow .ensures)
+    cut-body _ _ _ _ _ (v .before .before .before .left-from .ensures) (v .before .before .if1 .left) _ _ _ _
+    (v .before .pair-at .ensures, v .pair-at2 .ensures, m .before .is-record .ensures, m .may-follow .ensures)
     (c .before .before .if2 .left) (c .before .if3 .taken) (c .stop3 .ensures)
 
 is-full-requires : tie.Need-is-full-requires
@@ -60,8 +62,8 @@ returns-4 : tie.Need-returns-4
 returns-4 c =
     let m = c .before .before .before .before .before in
     let v = m .before .before in
-    too-many _ _ _ _ (v .before .before .before .before .before .pre .0) (v .before .before .if1 .left) _ _ _ _
-    (v .before .value-at .ensures .0, v .value-at2 .ensures .0, m .before .is-record .ensures, m .may-follow .ensures)
+    too-many _ _ _ _ _ (v .before .before .before .left-from .ensures) (v .before .before .if1 .left) _ _ _ _
+    (v .before .pair-at .ensures, v .pair-at2 .ensures, m .before .is-record .ensures, m .may-follow .ensures)
     (c .before .before .before .before .if2 .left) (c .before .before .before .if3 .left) _ (c .before .before .is-full .ensures) (c .before .if4 .taken)
     (c .stop4 .ensures)
 
@@ -75,8 +77,8 @@ returns-5 : tie.Need-returns-5
 returns-5 c =
     let m = c .before .before .before .before .before .before in
     let v = m .before .before in
-    ended _ _ _ _ (v .before .before .before .before .before .pre .0) (v .before .before .if1 .left) _ _ _ _
-    (v .before .value-at .ensures .0, v .value-at2 .ensures .0, m .before .is-record .ensures, m .may-follow .ensures)
+    ended _ _ _ _ _ (v .before .before .before .left-from .ensures) (v .before .before .if1 .left) _ _ _ _
+    (v .before .pair-at .ensures, v .pair-at2 .ensures, m .before .is-record .ensures, m .may-follow .ensures)
     (c .before .before .before .before .before .if2 .left) (c .before .before .before .before .if3 .left) _ (c .before .before .before .is-full .ensures)
     (c .before .before .if4 .left) (c .before .if5 .taken) (c .close .ensures)
 
@@ -87,14 +89,19 @@ add-t17 : tie.Need-add-t17
 add-t17 c = search needs
 
 count-requires : tie.Need-count-requires
-count-requires c κs = search needs
+count-requires c κs =
+    let f = c .before .before in
+    let z = f .before .before .before .before .before .before .before .before .before .before .before in
+    let g = z .good in
+    count-fits _ (z .args .room) (z .args .c .had) _ (sym (f .is-full .ensures) ∙ c .before .if4 .left)
+    (omega (arith, g), omega (arith, g), omega (arith, g)) (omega (arith, g), omega (arith, g), omega (arith, g))
 
 returns-6 : tie.Need-returns-6
 returns-6 c =
     let m = c .before .before .before .before .before .before in
     let v = m .before .before in
-    onwards _ _ _ _ (v .before .before .before .before .before .pre .0) (v .before .before .if1 .left) _ _ _ _
-    (v .before .value-at .ensures .0, v .value-at2 .ensures .0, m .before .is-record .ensures, m .may-follow .ensures)
+    onwards _ _ _ _ _ (v .before .before .before .left-from .ensures) (v .before .before .if1 .left) _ _ _ _
+    (v .before .pair-at .ensures, v .pair-at2 .ensures, m .before .is-record .ensures, m .may-follow .ensures)
     (c .before .before .before .before .before .if2 .left) (c .before .before .before .before .if3 .left) _ (c .before .before .before .is-full .ensures)
     (c .before .before .if4 .left) (c .before .if5 .left) (rw (c .count .ensures))
 
@@ -102,12 +109,12 @@ pub step-at-spec : {M : Type 1} → statement M
 step-at-spec =
     tie.close
     (tie.spec
-    sub-left
+    left-from-requires
     stop-requires
     returns
-    value-at-requires
-    add-value-at
-    value-at-requires-2
+    pair-at-requires
+    add-pair-at
+    pair-at-requires-2
     is-record-requires
     may-follow-requires
     stop-requires-2

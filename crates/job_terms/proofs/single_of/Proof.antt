@@ -1,9 +1,9 @@
 use mathlib.Core.Path.{_∙_}
 use lib.Ieee.{binary32}
-use Rattle.join_job.proofs.Patterns.{nan-of, not-nan, nan32}
+use Rattle.job_terms.proofs.Patterns.{nan-of, not-nan, nan32}
 use borrow.Author.Needs.{needs}
-use Rattle.join_job.proofs.single_of.Statement.{statement}
-use Rattle.join_job.proofs.single_of.Tie as tie
+use Rattle.job_terms.proofs.single_of.Statement.{statement}
+use Rattle.job_terms.proofs.single_of.Tie as tie
 
 returns : tie.Need-returns
 returns c = nan32 ∙ nan-of binary32 (c .before .args .bits) (c .if1 .taken)

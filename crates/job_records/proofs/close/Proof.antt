@@ -1,10 +1,10 @@
--- `job::close` meets its contract: a byte behind the end, and none. Assumes nothing.
+-- `job_records::close` meets its contract: a byte behind the end, and none. Assumes nothing.
 use mathlib.Core.Path.{_∙_}
 use borrow.Author.Needs.{needs}
 use denote.Ref.{now}
-use Rattle.job.proofs.Faults.{byte-behind, nothing-behind}
-use Rattle.job.proofs.close.Statement.{statement}
-use Rattle.job.proofs.close.Tie as tie
+use Rattle.job_records.proofs.Faults.{byte-behind, nothing-behind}
+use Rattle.job_records.proofs.close.Statement.{statement}
+use Rattle.job_records.proofs.close.Tie as tie
 
 stop-requires : tie.Need-stop-requires
 stop-requires c κs = search needs

@@ -1,10 +1,10 @@
--- `job::may_follow` meets its contract: the first record, and any other. Assumes nothing.
+-- `job_records::may_follow` meets its contract: the first record, and any other. Assumes nothing.
 use mathlib.Core.Path.{refl}
 use borrow.Author.Tests.{eq-eqb, ne-eqb}
 use Rattle.numbers.proofs.Choices.{taken, left}
-use Rattle.job.specs.Format.{mayFollow}
-use Rattle.job.proofs.may_follow.Statement.{statement}
-use Rattle.job.proofs.may_follow.Tie as tie
+use Rattle.job_records.specs.Records.{mayFollow}
+use Rattle.job_records.proofs.may_follow.Statement.{statement}
+use Rattle.job_records.proofs.may_follow.Tie as tie
 
 returns : tie.Need-returns
 unfolding mayFollow

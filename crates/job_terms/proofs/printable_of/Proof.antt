@@ -1,8 +1,8 @@
 -- The measures and the cosine are those of the run, at the poses given and at those that came out. Assumes nothing.
-use Rattle.join_job.specs.Joining.{printableOf}
+use Rattle.job_terms.specs.Terms.{printableAfter}
 use borrow.Author.Needs.{needs}
-use Rattle.join_job.proofs.printable_of.Statement.{statement}
-use Rattle.join_job.proofs.printable_of.Tie as tie
+use Rattle.job_terms.proofs.printable_of.Statement.{statement}
+use Rattle.job_terms.proofs.printable_of.Tie as tie
 
 measures-at-requires : tie.Need-measures-at-requires
 measures-at-requires c κs = search needs
@@ -14,7 +14,7 @@ may-be-printed-requires : tie.Need-may-be-printed-requires
 may-be-printed-requires c κs = search needs
 
 returns : tie.Need-returns
-unfolding printableOf
+unfolding printableAfter
 returns c = rw (c .may-be-printed .ensures, c .before .min-gravity-cosine .ensures, c .before .before .measures-at .ensures)
 
 pub printable-of-spec : {M : Type 1} → statement M

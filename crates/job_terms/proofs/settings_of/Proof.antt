@@ -1,6 +1,6 @@
 use borrow.Author.Needs.{needs}
-use Rattle.join_job.proofs.settings_of.Statement.{statement}
-use Rattle.join_job.proofs.settings_of.Tie as tie
+use Rattle.job_terms.proofs.settings_of.Statement.{statement}
+use Rattle.job_terms.proofs.settings_of.Tie as tie
 
 single-of-requires : tie.Need-single-of-requires
 single-of-requires c κs = search needs
