@@ -70,9 +70,9 @@ closeOut gravity c s l =
     (closedWith l (loopsClosed c s (l .work32) (l .work64) (l .original) (l .out)))
     (unfitNumber, l)
 
--- loops closed with such a weight, settings and gravity
-abbrev pub loopsOut : Float → Settings → List Float → Scan → LentScan → ℕ × LentScan
-loopsOut weight set g = closeOut (length g) (record { «loop_edge_weight» = weight; settings = set; manifold = gravityOf g })
+-- a scan's loops closed with such settings and gravity
+abbrev pub loopsOut : Settings → List Float → Scan → LentScan → ℕ × LentScan
+loopsOut set g s = closeOut (length g) (record { «loop_edge_weight» = s .weight; settings = set; manifold = gravityOf g }) s
 
 -- ---- pgo_float_text: how many bytes, and these at the start of the sixteen lent
 

@@ -635,7 +635,7 @@ pub extern "C" fn pgo_close_loops(
     measures: &mut [f64],
 ) -> u32
     ensures { λ r. ⌜ (r, scanLists (became work32) (became work64) (became original) (became out) (became answer) (became costs) (became measures))
-        ≡ loopsOut weight (settings limit «cost_tolerance» «gradient_tolerance» damping) (was gravity)
+        ≡ loopsOut (settings limit «cost_tolerance» «gradient_tolerance» damping) (was gravity)
         (scan (was ids) (was poses) (was loops) (was «loop_poses») weight)
         (scanLists (was work32) (was work64) (was original) (was out) (was answer) (was costs) (was measures)) ⌝ }
 {

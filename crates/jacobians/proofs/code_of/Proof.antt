@@ -1,3 +1,4 @@
+use mathlib.Core.Path.{sym, ap}
 use Rattle.jacobians.proofs.Going.{code-bad}
 use Rattle.jacobians.specs.Jacobians.{codeOf}
 use borrow.Author.Needs.{needs}
@@ -12,7 +13,7 @@ enum-known-went c = search needs
 
 returns : tie.Need-returns
 unfolding codeOf
-returns c = cc
+returns c = ap codeOf (sym (c .enum-told .given .1))
 
 returns-2 : tie.Need-returns-2
 returns-2 c = search code-bad
