@@ -39,7 +39,8 @@ unfoldable pub answer : Case → List ℕ
 answer (at x measured weight) =
     bits (costOf (lentLinks (0 ∷ 1 ∷ []) (edge measured weight) (none ∷ 0 ∷ []) 1) (poseAt (pose (num 0) ++ pose x)))
 answer (beside x) =
-    bits (costOf (lentLinks (0 ∷ 1 ∷ 0 ∷ 2 ∷ []) (edge 2 (num 1) ++ edge 2 (num 1)) (none ∷ 0 ∷ none ∷ []) 1) (poseAt (pose (num 0) ++ pose (num 1) ++ pose x)))
+    bits (costOf (lentLinks (0 ∷ 1 ∷ 0 ∷ 2 ∷ []) (edge 2 (num 1) ++ edge 2 (num 1)) (none ∷ 0 ∷ none ∷ []) 1)
+    (poseAt (pose (num 0) ++ pose (num 1) ++ pose x)))
 
 -- the f64 nearest to 1e300
 abbrev far : Float

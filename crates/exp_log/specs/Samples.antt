@@ -106,7 +106,7 @@ pub samples : map answer (log (at noTurn (v32 one two three))
     ∷ (half ∷ half ∷ half ∷ half ∷ one ∷ two ∷ three ∷ []) ∷ (half ∷ half ∷ half ∷ half ∷ one ∷ two ∷ three ∷ [])
     ∷ (half ∷ half ∷ half ∷ half ∷ three ∷ one ∷ two ∷ []) ∷ (less half ∷ less half ∷ less half ∷ half ∷ less two ∷ less three ∷ less one ∷ [])
     ∷ (0x3ef5_7744 ∷ o ∷ o ∷ 0x3f60_a940 ∷ o ∷ 0x3f57_6aa4 ∷ 0x3eeb_5d7f ∷ []) ∷ (o ∷ one ∷ 0xb0ef_66e4 ∷ one ∷ o ∷ o ∷ []) ∷ []
-unfolding answer ratio if-then add sub mul div neg lt le ofBits toBits rounded rooted dot cross plus minus times over matrixOf turned conjugate quatProduct wide
-    finished product inverse halvedBy byRule quatOfMatrix series squared squarings sineSeries cosineSeries turnBy smallBend largeBend bend bent turning turnOf
-    movedBy expOf upright halved arcSeries angleOf unbend logWide narrowedTwist logOf
+unfolding answer ratio if-then add sub mul div neg lt le ofBits toBits rounded rooted dot cross plus minus times over matrixOf turned conjugate quatProduct
+    wide finished product inverse halvedBy byRule quatOfMatrix series squared squarings sineSeries cosineSeries turnBy smallBend largeBend bend bent
+    turning turnOf movedBy expOf upright halved arcSeries angleOf unbend logWide narrowedTwist logOf
 samples = refl

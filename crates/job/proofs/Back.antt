@@ -18,9 +18,9 @@ use Rattle.job_records.specs.declared.Step.the-variants as step
 use Rattle.job_records.specs.Bytes.{valuesAt, bytesFrom}
 use Rattle.job.specs.Format.{Job, emptyJob, tallyOf, settingsRecord, poseRecord, edgeRecord, fixedRecord, endRecord, encoded}
 use Rattle.job_records.specs.Records.{kindAt, isRecord, mayFollow, isFull, faultOf, counted, stepFrom, recordStep}
-use Rattle.job.specs.Format.{start, holding, taken, reading, CursorIn}
+use Rattle.job.specs.Format.{start, holding, taken, reading}
 use Rattle.job.proofs.Pasting.{length-strung}
-use Rattle.job.proofs.Stepping.{from, from-start, from-on, from-done, cursor-start}
+use Rattle.job.proofs.Stepping.{CursorIn, from, from-start, from-on, from-done, cursor-start}
 use Rattle.job.proofs.Encoding.{length-bytesFrom, length-recordOf, length-settingsRecord, length-poseRecord, length-edgeRecord, length-fixedRecord}
 use Rattle.job.proofs.Bytewise.{Bytes}
 use Rattle.job.proofs.Trips.{Wide, read-wide, read-settings, read-lengths, read-tally}

@@ -19,8 +19,8 @@ use Rattle.job_records.specs.declared.Step.{Step}
 use Rattle.job_records.specs.declared.Step.the-variants as step
 use Rattle.job_records.specs.Records.{kindAt, faultOf, endFaults, behind, closed, stepFrom, recordStep}
 use Rattle.job.specs.Format.{Job}
-use Rattle.job.specs.Format.{holding, taken, refused, reading, start, emptyJob, CursorIn}
-use Rattle.job.proofs.Stepping.{cursor-on, cursor-start, from, from-start, from-on, from-done, from-stop}
+use Rattle.job.specs.Format.{holding, taken, refused, reading, start, emptyJob}
+use Rattle.job.proofs.Stepping.{CursorIn, cursor-on, cursor-start, from, from-start, from-on, from-done, from-stop}
 
 -- reading comes to a cursor, with a job: over records without a fault
 pub data Comes (room : Tally) (s : List ℕ) : Cursor → Job → Type 0 where

@@ -20,9 +20,9 @@ use Rattle.job.specs.declared.Scanned.the-variants as scanned
 use Rattle.job_records.specs.Bytes.{valuesAt, pasted}
 use Rattle.job_records.specs.Records.{kindAt, lengthAt, isFull, faultOf, one, behind, recordStep}
 use Rattle.job.specs.Format.{Job, numbersIf, holding, Reading, reading}
-use Rattle.job.specs.Format.{start, emptyJob, Space, space, roomIn, filled, CursorIn, scannedAs, IsTaken, taking, filledBy}
+use Rattle.job.specs.Format.{start, emptyJob, Space, space, roomIn, filled, scannedAs, IsTaken, taking, filledBy}
 use Rattle.job.proofs.Pasting.{pasted-none, pasted-more, length-pasted}
-use Rattle.job.proofs.Stepping.{Kind, settings, pose, edge, fixed, end, fault-free, room-for-pose, room-for-edge, room-for-fixed, went-on}
+use Rattle.job.proofs.Stepping.{CursorIn, Kind, settings, pose, edge, fixed, end, fault-free, room-for-pose, room-for-edge, room-for-fixed, went-on}
 use Rattle.job.proofs.Stepping.{cursor-on, cursor-start, from, from-start, from-on, from-done, from-stop}
 
 -- ---- what the scan knows at a cursor

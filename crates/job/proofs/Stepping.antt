@@ -23,7 +23,7 @@ use Rattle.job_records.specs.declared.Step.the-variants as step
 use Rattle.job_records.specs.Records.{kindAt, lengthAt, isRecord, mayFollow, isFull, recordFaults}
 use Rattle.job_records.specs.Records.{faultOf, endFaults, one, behind, closed, stepFrom, recordStep}
 use Rattle.job.specs.Format.{Job}
-use Rattle.job.specs.Format.{holding, Reading, taken, refused, readOn, readFrom, reading, start, emptyJob, CursorIn}
+use Rattle.job.specs.Format.{holding, Reading, taken, refused, readOn, readFrom, reading, start, emptyJob}
 
 -- ---- kinds and lengths
 
@@ -168,6 +168,10 @@ one-most : (b : Bool) → one b ≤ 1
 unfolding if-then
 one-most true = omega arith
 one-most false = omega arith
+
+-- a cursor that reading can come to: within the bytes, and it counted no more than it passed
+abbrev pub CursorIn : List ℕ → Cursor → Type 0
+CursorIn s c = (c .at ≤ length s) × (c .had .poses ≤ c .at) × (c .had .edges ≤ c .at) × (c .had .fixed ≤ c .at)
 
 pub cursor-on : (room : Tally) (s : List ℕ) (c d : Cursor) → CursorIn s c → recordStep room s c ≡ step.On d → CursorIn s d × (c .at < d .at)
 cursor-on room s c d i e =

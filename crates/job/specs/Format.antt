@@ -178,10 +178,6 @@ jobOf t l =
 
 -- ---- for the functions behind the reader; nothing above rests on it
 
--- a cursor that reading can come to: within the bytes, and it counted no more than it passed
-abbrev pub CursorIn : List ℕ → Cursor → Type 0
-CursorIn s c = (c .at ≤ length s) × (c .had .poses ≤ c .at) × (c .had .edges ≤ c .at) × (c .had .fixed ≤ c .at)
-
 abbrev pub scannedAs : Reading → Scanned
 scannedAs (taken t j) = scanned.Whole t
 scannedAs (refused r) = scanned.Refused r

@@ -31,7 +31,7 @@ pub fn settings_of(t: SettingBits) -> Settings
 }
 
 // Whether a run's new poses may be printed, by how it ended and by the poses given.
-pub fn printable_of(
+pub fn printable_after(
     converged: bool,
     iterations: u32,
     limit: u32,

@@ -157,7 +157,7 @@ fn judge_over(
         Answer::Refused(r) => Judged::Refused(r),
         Answer::Joined(j) => Judged::Ran(
             j,
-            job_terms::printable_of(j.converged, j.iterations, t.limit, poses, ends, edges, out),
+            job_terms::printable_after(j.converged, j.iterations, t.limit, poses, ends, edges, out),
         ),
     }
 }

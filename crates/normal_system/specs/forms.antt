@@ -1,2 +1,2 @@
--- What private functions promise: forms that follow the code, each tied by a law to a definition of the folder above.
+-- What private functions promise: forms that follow the code, each tied by a law or a promise to a definition of the folder above.
 pub mod Building

@@ -1,5 +1,5 @@
--- What closing a scan's loops answers, and what it leaves in every lent number, for every input: document 02, Wish 2. Rows 33 and 34, then the run of the built
--- graph with its own rows, then the measures and whether it may be printed. Definitions only.
+-- What closing a scan's loops answers, and what it leaves in every lent number, for every input: document 02, Wish 2. Rows 33 and 34, then the run of the
+-- built graph with its own rows, then the measures and whether it may be printed. Definitions only.
 use mathlib.Core.List.{List}
 use lib.ListN.{length}
 use lib.Ieee.{Float}

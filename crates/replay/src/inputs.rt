@@ -55,7 +55,7 @@ pub fn lists_of(b: &[u8]) -> Lists
     }
 }
 
-pub fn settings_of(b: &[u8]) -> Settings {
+pub fn recorded_settings(b: &[u8]) -> Settings {
     Settings {
         limit: bytes::u32_at(b, 44, 0),
         cost_tolerance: bytes::f32_at(b, 44, 1),

@@ -95,7 +95,7 @@ pub fn same_run(b: &[u8], poses: &[f64], ends: &[u32], edges: &[f32], fixed: &[u
         ends,
         edges,
         fixed,
-        inputs::settings_of(b),
+        inputs::recorded_settings(b),
         w32,
         w64,
         new,

@@ -16,8 +16,8 @@ enum-known-a c = search needs
 enum-known-a-2 : tie.Need-enum-known-a-2
 enum-known-a-2 c = search needs
 
-printable-of-requires : tie.Need-printable-of-requires
-printable-of-requires c κs = search needs
+printable-after-requires : tie.Need-printable-after-requires
+printable-after-requires c κs = search needs
 
 same-length : tie.Need-same-length
 same-length c = search needs
@@ -44,7 +44,7 @@ returns-2 c =
     let e =
     judged-as (a .t) (now (a .poses)) (now (a .ends)) (now (a .edges)) (now (a .fixed)) (now (a .out)) _ _
     (sym (c .before .before .before .a2 .given .1) ∙ run .ensures .0) (run .ensures .1) in
-    (rw (c .printable-of .ensures) e, run .ensures .1)
+    (rw (c .printable-after .ensures) e, run .ensures .1)
 
 pub judge-over-spec : {M : Type 1} → statement M
 judge-over-spec =
@@ -53,7 +53,7 @@ judge-over-spec =
     run-over-requires
     enum-known-a
     enum-known-a-2
-    printable-of-requires
+    printable-after-requires
     same-length
     returns
     same-length-2

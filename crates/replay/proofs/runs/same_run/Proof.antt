@@ -37,8 +37,8 @@ slice-aggregate-new c = part-made 2048 (ofBits binary64 4602678819172646912) (c 
 manifold-of-requires : tie.Need-manifold-of-requires
 manifold-of-requires c κs = tt
 
-settings-of-requires : tie.Need-settings-of-requires
-settings-of-requires c κs = tt
+recorded-settings-requires : tie.Need-recorded-settings-requires
+recorded-settings-requires c κs = tt
 
 sparse-pose-graph-optimize-requires : tie.Need-sparse-pose-graph-optimize-requires
 sparse-pose-graph-optimize-requires c κs = tt
@@ -65,7 +65,7 @@ same-run-spec =
     array-borrow-prefix-out
     slice-aggregate-new
     manifold-of-requires
-    settings-of-requires
+    recorded-settings-requires
     sparse-pose-graph-optimize-requires
     same-answer-requires
     returns)
