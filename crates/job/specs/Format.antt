@@ -1,6 +1,6 @@
 -- The job file: document 02, Wish 1. What a job is, as numbers and as bytes, and what reading answers.
 -- A number is a bit pattern here, and no float is looked at. Definitions only.
-use Prim.Native.Nat.{ℕ, zero, suc, _+_, _*_, _/_, _≤_, min}
+use Prim.Native.Nat.{ℕ, zero, suc, _+_, _*_, _/_, min}
 use mathlib.Core.Bool.{Bool}
 use mathlib.Core.List.{List, [], _∷_, _++_}
 use lib.Dec.{eqb}
