@@ -1,4 +1,4 @@
-//! Row 26's search, transcribed from the port's crate graph so that its renamings can be counted.
+//! Row 26's search, transcribed from the port's crate checks so that its renamings can be counted.
 
 use restated::case::Case;
 

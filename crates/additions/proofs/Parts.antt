@@ -6,7 +6,7 @@ use native.Mathlib.Omega.{arith}
 use lib.ListN.{take, drop, take-append-drop}
 use lib.Seq.{getD-drop, take-set-le, drop-set-add}
 use lib.Ieee.{Float, nan}
-use Rattle.numbers.specs.Walks.{Ended, done, stopped, turn, stepOn, each, well}
+use Rattle.numbers.specs.Walks.{Ended, done, stopped, stepEnd, stepOn, each, well}
 use Rattle.numbers.specs.declared.Went.{Went}
 use Rattle.numbers.specs.declared.Went.the-variants.{Well, Bad}
 use Rattle.numbers.proofs.Invariants.{Good, Over, each-over}
@@ -27,7 +27,7 @@ module _ (at : ℕ) (v : ℕ → Float) where
   unfolding addTo
   add-part c w = rw (getD-drop at w c nan, drop-set-add)
 
-  turn-part : (n : ℕ) (x : Went × List Float) → turn n (x .0, drop at (x .1)) ≡ part at (turn n x)
+  turn-part : (n : ℕ) (x : Went × List Float) → stepEnd n (x .0, drop at (x .1)) ≡ part at (stepEnd n x)
   turn-part n (Well, w) = refl
   turn-part n (Bad why, w) = refl
 
@@ -37,7 +37,7 @@ module _ (at : ℕ) (v : ℕ → Float) where
   each-part (suc n) w = rw (each-part n w) (go (each inWhole n w))
     where
       go : (e : Ended (List Float)) → stepOn (part at e) n inPart ≡ part at (stepOn e n inWhole)
-      go (done w) = ap (turn n) (add-part n w) ∙ turn-part n (inWhole n w)
+      go (done w) = ap (stepEnd n) (add-part n w) ∙ turn-part n (inWhole n w)
       go (stopped k why w) = refl
 
   -- the numbers before the part stay

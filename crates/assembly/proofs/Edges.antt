@@ -55,7 +55,7 @@ said {J} {x = x} {y = y} h e f =
     ap (λ (v : Went). (v, J .1)) g ∙ ap (λ (l : List (List Float)). (y, l)) (sym (h .1))
 
 -- ---- a block that has room among the n unknowns of the work
-pub record Room (m : Manifold) (n : ℕ) (w : List Float) (i : ℕ) : Type 0 where
+pub record BlockRoom (m : Manifold) (n : ℕ) (w : List Float) (i : ℕ) : Type 0 where
   pub inside : i * dofOf m + dofOf m ≤ n
   pub there : need n ≤ length w
 
@@ -63,7 +63,7 @@ dof-some : (m : Manifold) → 0 < dofOf m
 dof-some Se3 = omega arith
 dof-some (Gravity g) = omega arith
 
-room-fits : (m : Manifold) (n : ℕ) (w : List Float) (i : ℕ) {dof : ℕ} → dof ≡ dofOf m → Room m n w i → fits n dof i (length w) ≡ true
+room-fits : (m : Manifold) (n : ℕ) (w : List Float) (i : ℕ) {dof : ℕ} → dof ≡ dofOf m → BlockRoom m n w i → fits n dof i (length w) ≡ true
 room-fits m n w i e r = rw e (fit n (dofOf m) i (length w) (r .there) (dof-some m) (dof-most m) (r .inside))
 
 -- ---- an edge with one free end, by its parts
@@ -78,7 +78,7 @@ module _ (m : Manifold) (n : ℕ) (probe : ℕ → Bool → Converted) (x : Link
     unfolding oneIn withLink withJacobian
     one-no-jacobian e = rw (h, ← law, said f g e)
 
-    pub one-had : {dof : ℕ} {r : List Float} {s : Went × List Float} → y ≡ Well → r ≡ sixOf d → dof ≡ dofOf m → Room m n w i
+    pub one-had : {dof : ℕ} {r : List Float} {s : Went × List Float} → y ≡ Well → r ≡ sixOf d → dof ≡ dofOf m → BlockRoom m n w i
         → s ≡ only (fits n dof i (length w)) (endAdded lowerTriangle n dof i j r) w → s ≡ oneIn (dofOf m) n probe x end i w
     unfolding oneIn withLink withJacobian
     one-had {dof} {r} e q p room z =
@@ -102,7 +102,7 @@ module _ (m : Manifold) (n : ℕ) (pa pb : ℕ → Bool → Converted) (x : Link
       unfolding bothIn withLink withJacobian
       both-no-b e' = rw (h, ← law, said f g e, ← law', said f' g' e')
 
-      pub both-had : {dof : ℕ} {r : List Float} {s : Went × List Float} → z ≡ Well → r ≡ sixOf d → dof ≡ dofOf m → Room m n w i → Room m n w k
+      pub both-had : {dof : ℕ} {r : List Float} {s : Went × List Float} → z ≡ Well → r ≡ sixOf d → dof ≡ dofOf m → BlockRoom m n w i → BlockRoom m n w k
           → s ≡ only (fits n dof i (length w) && fits n dof k (length w)) (endsAdded lowerTriangle n dof i k ja jb r) w
           → s ≡ bothIn (dofOf m) n pa pb x i k w
       unfolding bothIn withLink withJacobian

@@ -24,32 +24,12 @@ use Rattle.graph.specs.declared.Manifold.{Manifold}
 use Rattle.solve.specs.Rule.{nothing}
 use Rattle.profile.specs.Layout.{need}
 use Rattle.solve.specs.Work.{Place, kept, scratch, stepAt, placeOf, after, workAfter}
+use Rattle.solve.proofs.Places.{at-system, at-gradient, at-rest}
 use Rattle.additions.specs.Additions.{addTo}
 use Rattle.assembly.specs.Assembly.{cleared, assembledEnds, assembledFrom, assembledOf}
 use Rattle.assembly.proofs.Laws.{cleared-length, cleared-zero, cleared-rest}
 use Rattle.numbers.proofs.Invariants.{Good, Over}
 use Rattle.assembly.proofs.Walked.{Fits, edges-over}
-
--- ---- the places of the system, and those past it
-module _ (n : ℕ) where
-  at-matrix : (i j : ℕ) → j ≤ i → i < n → placeOf n (j * n + i) ≡ kept
-  unfolding placeOf
-  at-matrix i j h l =
-      sym (taken _ (lt-ltb (j * n + i) (n * n) (digits-lt (omega arith) l)) (taken _ (rw (digits-div j l, digits-mod j l) (le-leb j i h)) refl))
-
-  at-gradient : (i : ℕ) → i < n → placeOf n (n * n + n + i) ≡ kept
-  unfolding placeOf
-  at-gradient i l =
-      sym (left _ (le-ltb (n * n + n + i) (n * n) (omega arith))
-      (left _ (le-ltb (n * n + n + i) (n * n + n) (omega arith)) (taken _ (lt-ltb (n * n + n + i) (n * n + n + n) (omega arith)) refl)))
-
-  at-rest : (q : ℕ) → need n ≤ q → placeOf n q ≡ kept
-  unfolding placeOf
-  at-rest q h =
-      sym
-      (left _ (le-ltb q (n * n) (omega arith))
-      (left _ (le-ltb q (n * n + n) (omega arith))
-      (left _ (le-ltb q (n * n + n + n) (omega arith)) (left _ (le-ltb q (need n) h) refl))))
 
 -- ---- what is left
 pub record Clean (n : ℕ) (w y : List Float) : Type 0 where
@@ -92,8 +72,8 @@ module _ (n : ℕ) (w : List Float) where
     pub edges-clean : (m : Manifold) (l : Links Edge) (pose : ℕ → Pose) → Fits m n l → Over (Clean n w) (Clean n w) (assembledEnds m n l pose w)
     edges-clean m l pose f =
         edges-over n (Clean n w) (Clean n w) (λ _ s. s)
-        (λ y i j v h b s. added y (j * n + i) v (at-matrix n i j h b) (let z : j * n + i < n * n = digits-lt (omega arith) b in omega arith) s)
-        (λ y i v b s. added y (n * n + n + i) v (at-gradient n i b) (omega arith) s)
+        (λ y i j v h b s. added y (j * n + i) v (at-system n i j h b) (let z : j * n + i < n * n = digits-lt (omega arith) b in omega arith) s)
+        (λ y i v b s. added y (n * n + n + i) v (at-gradient n (n * n + n + i) (omega arith) (omega arith)) (omega arith) s)
         m l pose w f start-clean
 
     pub assembled-clean : (m : Manifold) (l : Links Edge) (pose : ℕ → Pose) → Fits m n l → Clean n w (assembledOf m n l pose w .1)

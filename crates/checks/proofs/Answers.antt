@@ -22,7 +22,7 @@ use Rattle.graph.specs.Lent.{dofOf}
 use Rattle.checks.specs.Input.{Input, graphOf, lentGraph, lent, unset}
 use Rattle.checks.specs.Islands.{weighs, isLoose}
 use Rattle.checks.specs.Labels.{labelOf, labelFaults, Merges, Labelled}
-use Rattle.checks.specs.Table.{islandFaults, graphRows, countsOf, settle, blockNumber, blocksOf, graphChecks, checks}
+use Rattle.checks.specs.Table.{islandFaults, graphRows, countsOf, checkedBy, blockNumber, blocksOf, graphChecks, checks}
 use Rattle.rows.specs.Tests.{tooMany, shortWork, settingRows}
 use Rattle.numbers.proofs.Tests.{neither-first}
 use Rattle.numbers.proofs.Reading.{ask-fine, row-at}
@@ -37,7 +37,7 @@ freeSaid v free = orElse (orElse v (ask (eqb free 0) 12 0)) (ask (ltb 64 free) 1
 -- then 26, as something says it, and 14; and the answer
 abbrev pub answer : Input → Verdict → ℕ → Verdict → Checked
 answer i v free loose =
-    settle
+    checkedBy
     (orElse (orElse (freeSaid v free) loose)
     (ask (shortWork (dofOf (i .manifold) * free) (length (i .poses) / 12) (i .room .work32) (i .room .work64)) 14 0))
     (record { poses = length (i .poses) / 12; edges = length (i .ends) / 2; free = free })
@@ -69,7 +69,7 @@ same-answer i (Refused r) m n s t h k = refl
 
 pub answers : (i : Input) (free : ℕ) (blocks labels : List ℕ) → free ≡ count (isFree (graphOf i)) 256 → blocks ≡ blocksOf i
     → (freeSaid (verdict (take 8 (graphRows i))) free ≡ Fine → Merges (graphOf i) (graphOf i .edges) (labelOf blocks) (labelOf labels))
-    → answer i (verdict (take 8 (graphRows i))) free (lowest (labelFaults labels) (graphOf i .poses)) ≡ settle (verdict (graphRows i)) (countsOf i)
+    → answer i (verdict (take 8 (graphRows i))) free (lowest (labelFaults labels) (graphOf i .poses)) ≡ checkedBy (verdict (graphRows i)) (countsOf i)
 answers i free blocks labels f h m =
     same-answer i (verdict (take 8 (graphRows i))) _ _ _ (lowest (islandFaults (graphOf i)) (graphOf i .poses))
     (λ e. f ∙ free-agrees i e)
@@ -100,7 +100,7 @@ unfolding graphChecks
 graph-checked i free a l labels f h m e =
     let f' : free ≡ count (isFree (graphOf i)) 256 = f ∙ ap (λ (t : ℕ → Bool). count t 256) (free-alone i) in
     let l' : l ≡ blocksOf i = h ∙ ap (λ (t : ℕ → ℕ). table t 256) (blocks-alone i) in
-    let a' : a ≡ settle (verdict (graphRows i)) (countsOf i) = e ∙ answers i free l labels f' l' (λ s. labels-alone i l labels (m s)) in
+    let a' : a ≡ checkedBy (verdict (graphRows i)) (countsOf i) = e ∙ answers i free l labels f' l' (λ s. labels-alone i l labels (m s)) in
     rw (a', l')
 
 -- ---- the settings come last
@@ -110,11 +110,11 @@ pub settings-alone : (i : Input) → graphChecks (lent (i .manifold) (i .poses) 
 unfolding graphChecks
 settings-alone i = refl
 
-pub settle-turned : (v : Verdict) (n : Counts) (r : Refusal) → settle v n ≡ Turned r → v ≡ Refused r
+pub settle-turned : (v : Verdict) (n : Counts) (r : Refusal) → checkedBy v n ≡ Turned r → v ≡ Refused r
 settle-turned Fine n r e = let z : _≡_ {A = ℕ} 0 1 = cc in absurd (omega arith)
 settle-turned (Refused q) n r e = cc
 
-pub settle-fit : (v : Verdict) (n m : Counts) → settle v n ≡ Fit m → (v ≡ Fine) × (n ≡ m)
+pub settle-fit : (v : Verdict) (n m : Counts) → checkedBy v n ≡ Fit m → (v ≡ Fine) × (n ≡ m)
 settle-fit Fine n m e = (refl, cc)
 settle-fit (Refused q) n m e = let z : _≡_ {A = ℕ} 0 1 = cc in absurd (omega arith)
 
@@ -125,7 +125,7 @@ checked-turned i r e =
     rw v
 
 pub checked-fit : (i : Input) (n : Counts) → graphChecks i .answer ≡ Fit n
-    → _≡_ {A = Checks} (record { answer = settle (verdict (settingRows (i .settings))) n; blocks = graphChecks i .blocks }) (checks i)
+    → _≡_ {A = Checks} (record { answer = checkedBy (verdict (settingRows (i .settings))) n; blocks = graphChecks i .blocks }) (checks i)
 unfolding graphChecks checks
 checked-fit i n e =
     let v = settle-fit (verdict (graphRows i)) (countsOf i) n e in

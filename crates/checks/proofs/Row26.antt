@@ -19,7 +19,7 @@ use Rattle.checks.specs.declared.Checked.the-variants.{Turned}
 use Rattle.graph.specs.Graph.{isFree, freeCount}
 use Rattle.checks.specs.Input.{Input, graphOf}
 use Rattle.checks.specs.Islands.{Loose, isLoose}
-use Rattle.checks.specs.Table.{islandFaults, rowsTo13, graphRows, rows, countsOf, settle, graphChecks, checks}
+use Rattle.checks.specs.Table.{islandFaults, rowsTo13, graphRows, rows, countsOf, checkedBy, graphChecks, checks}
 use Rattle.checks.proofs.Free.{ends-in, free-past}
 use Rattle.checks.proofs.Islands.{loose-means}
 use Rattle.checks.proofs.Answers.{settle-turned}
@@ -72,7 +72,7 @@ module _ (i : Input) (x : ℕ) where
   unfolding checks
   refused-26 = (
     λ e. adrift-then (drop 11 (rows i)) refl (settle-turned _ (countsOf i) _ e),
-    λ a. ap (λ (v : Verdict). settle v (countsOf i)) (refused-then (drop 11 (rows i)) a),
+    λ a. ap (λ (v : Verdict). checkedBy v (countsOf i)) (refused-then (drop 11 (rows i)) a),
   )
 
   -- and of the graph's alone, those before an assembly
@@ -80,7 +80,7 @@ module _ (i : Input) (x : ℕ) where
   unfolding graphChecks
   refused-26-graph = (
     λ e. adrift-then (drop 11 (graphRows i)) refl (settle-turned _ (countsOf i) _ e),
-    λ a. ap (λ (v : Verdict). settle v (countsOf i)) (refused-then (drop 11 (graphRows i)) a),
+    λ a. ap (λ (v : Verdict). checkedBy v (countsOf i)) (refused-then (drop 11 (graphRows i)) a),
   )
 
 -- ---- one loose pose, whichever, is enough

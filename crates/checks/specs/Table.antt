@@ -1,5 +1,5 @@
 -- The table of refusals, rows 1 to 19 and 26: document 01, "What is turned down, and in what order", and document 02, Wish 6. A line a row; 7 to 10 go
--- edge by edge. What each row asks stands in `rows`, Tests. Definitions only.
+-- edge by edge. What a row asks stands in its line, or under a name in `rows`, Tests, and for 26 in Islands. Definitions only.
 use Prim.Native.Nat.{ℕ, _*_}
 use mathlib.Core.Bool.{not, _||_}
 use mathlib.Core.List.{List, [], _∷_, _++_}
@@ -80,9 +80,9 @@ rows i = graphRows i ++ settingRows (i .settings)
 abbrev pub countsOf : Input → Counts
 countsOf i = record { poses = graphOf i .poses; edges = graphOf i .edges; free = freeCount (graphOf i) }
 
-abbrev pub settle : Verdict → Counts → Checked
-settle verdict.Fine c = checked.Fit c
-settle (verdict.Refused r) c = checked.Turned r
+abbrev pub checkedBy : Verdict → Counts → Checked
+checkedBy verdict.Fine c = checked.Fit c
+checkedBy (verdict.Refused r) c = checked.Turned r
 
 -- a free pose's block, or none
 unfoldable pub blockNumber : {P M : Type 0} → Graph P M → ℕ → ℕ
@@ -92,7 +92,7 @@ abbrev pub blocksOf : Input → List ℕ
 blocksOf i = table (blockNumber (graphOf i)) 256
 
 unfoldable pub graphChecks : Input → Checks
-graphChecks i = record { answer = settle (verdict (graphRows i)) (countsOf i); blocks = blocksOf i }
+graphChecks i = record { answer = checkedBy (verdict (graphRows i)) (countsOf i); blocks = blocksOf i }
 
 unfoldable pub checks : Input → Checks
-checks i = record { answer = settle (verdict (rows i)) (countsOf i); blocks = blocksOf i }
+checks i = record { answer = checkedBy (verdict (rows i)) (countsOf i); blocks = blocksOf i }

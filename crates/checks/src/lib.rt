@@ -14,7 +14,7 @@ ghost use Rattle.graph.specs.Lent.{endA, endB};
 ghost use Rattle.checks.specs.Input.{lentGraph, lent, unset};
 ghost use Rattle.checks.specs.Islands.{weighs};
 ghost use Rattle.checks.specs.Labels.{labelOf, renamed, labelFaults, MergesTwo, Labelled};
-ghost use Rattle.checks.specs.Table.{poseFaults, edgeFaults, graphRows, settle, blockNumber, graphChecks, checks};
+ghost use Rattle.checks.specs.Table.{poseFaults, edgeFaults, graphRows, checkedBy, blockNumber, graphChecks, checks};
 ghost use Rattle.rows.specs.Tests.{fixedFaults};
 use graph::Manifold;
 use numbers::Refusal;
@@ -326,7 +326,7 @@ fn island_rows(v: Verdict, labels: &[u32; 256], n: usize) -> Verdict
 // ---- rows 1 to 14 and 26, and the blocks
 
 fn settled(v: Verdict, counts: Counts) -> Checked
-    ensures { λ r. ⌜ r ≡ settle v counts ⌝ }
+    ensures { λ r. ⌜ r ≡ checkedBy v counts ⌝ }
 {
     match v {
         Verdict::Fine => Checked::Fit(counts),

@@ -16,7 +16,7 @@ use Rattle.job_records.specs.declared.Tally.{Tally}
 use Rattle.job_records.specs.declared.Cursor.{Cursor}
 use Rattle.job_records.specs.declared.Step.the-variants as step
 use Rattle.job_records.specs.Records.{kindAt, lengthAt}
-use Rattle.job.specs.Format.{Job, emptyJob, recordOf, settingsRecord, poseRecord, edgeRecord, fixedRecord, start}
+use Rattle.job.specs.Format.{Job, emptyJob, recordOf, settingsRecord, poseRecord, edgeRecord, fixedRecord, firstCursor}
 use Rattle.job_records.specs.Records.{counted, behind, recordStep}
 use Rattle.job.specs.Format.{numbersIf, holding}
 use Rattle.job.proofs.Stepping.{Kind, settings as of-settings, pose as of-pose, edge as of-edge, fixed as of-fixed, end as of-end}
@@ -33,7 +33,7 @@ recordsOf t j =
     ++ strung (fixedRecord (j .fixed)) (t .fixed)
 
 pub record Along (room : Tally) (s : List ℕ) (c : Cursor) (j : Job) : Type 0 where
-  pub before : c .last ≡ 0 → (c ≡ start) × (j ≡ emptyJob)
+  pub before : c .last ≡ 0 → (c ≡ firstCursor) × (j ≡ emptyJob)
   pub settings : 0 < c .last → j .settings ≡ valuesAt 4 4 s 4
   pub opened : 0 < c .last → (kindAt s 0 ≡ 1) × (20 ≤ length s)
   pub poses : length (j .poses) ≡ 12 * c .had .poses
@@ -52,7 +52,7 @@ pub record Along (room : Tally) (s : List ℕ) (c : Cursor) (j : Job) : Type 0 w
 pub four-settings : {room : Tally} {s : List ℕ} {c : Cursor} {j : Job} → Along room s c j → 0 < c .last → length (j .settings) ≡ 4
 four-settings {s} a h = ap length (a .settings h) ∙ length-table (λ i. valueAt 4 s (4 + 4 * i)) 4
 
-pub along-start : (room : Tally) (s : List ℕ) → Along room s start emptyJob
+pub along-start : (room : Tally) (s : List ℕ) → Along room s firstCursor emptyJob
 along-start room s =
     record {
       before = λ e. (refl, refl);
@@ -140,9 +140,9 @@ module _ (s : List ℕ) (at : ℕ) (j : Job) where
       ∙ job-same _ _ _ _ _ _ _ _ _ _ (append-nil (j .settings)) (append-nil (j .poses)) (append-nil (j .ends)) (append-nil (j .edges)) refl
 
 -- the first record
-behind-settings : (s : List ℕ) → kindAt s 0 ≡ 1 → lengthAt s 0 ≡ 16 → behind s start ≡ cursorAt 20 1 0 0 0
+behind-settings : (s : List ℕ) → kindAt s 0 ≡ 1 → lengthAt s 0 ≡ 16 → behind s firstCursor ≡ cursorAt 20 1 0 0 0
 unfolding if-then
-behind-settings s k l = behind-as s start 1 16 k l
+behind-settings s k l = behind-as s firstCursor 1 16 k l
 
 holding-settings : (s : List ℕ) → kindAt s 0 ≡ 1 → holding s 0 emptyJob ≡ jobWith (valuesAt 4 4 s 4) [] [] [] []
 unfolding if-then

@@ -18,7 +18,7 @@ use Rattle.job_records.specs.declared.Step.the-variants as step
 use Rattle.job_records.specs.Bytes.{valuesAt, bytesFrom}
 use Rattle.job.specs.Format.{Job, emptyJob, tallyOf, settingsRecord, poseRecord, edgeRecord, fixedRecord, endRecord, encoded}
 use Rattle.job_records.specs.Records.{kindAt, isRecord, mayFollow, isFull, faultOf, counted, stepFrom, recordStep}
-use Rattle.job.specs.Format.{start, holding, taken, reading}
+use Rattle.job.specs.Format.{firstCursor, holding, taken, reading}
 use Rattle.job.proofs.Pasting.{length-strung}
 use Rattle.job.proofs.Stepping.{CursorIn, from, from-start, from-on, from-done, cursor-start}
 use Rattle.job.proofs.Encoding.{length-bytesFrom, length-recordOf, length-settingsRecord, length-poseRecord, length-edgeRecord, length-fixedRecord}
@@ -28,7 +28,7 @@ use Rattle.job.proofs.Standing.{Stands, stands-whole, moved, stands-fir
 use Rattle.job.proofs.Standing.{Header, body-stands, header-stands}
 
 -- a job whose numbers fit: four settings, whole poses and edges, each number within its width
-pub record Whole (j : Job) : Type 0 where
+pub record JobFits (j : Job) : Type 0 where
   pub four : length (j .settings) ≡ 4
   pub poses-whole : length (j .poses) ≡ 12 * tallyOf j .poses
   pub ends-whole : length (j .ends) ≡ 2 * tallyOf j .edges
@@ -211,13 +211,13 @@ module _ (room : Tally) (j : Job) (p e f : ℕ) (s : List ℕ) where
         moved (omega arith) (stands-second to-fixed endRecord (20 + 100 * p + 44 * e + 8 * f) length-to-fixed all-stands)
 
     -- a turn over each kind of record
-    settings-turn : from room s start emptyJob ≡ from room s (now 0 0 0 1) (firsts j 0 0 0)
+    settings-turn : from room s firstCursor emptyJob ≡ from room s (now 0 0 0 1) (firsts j 0 0 0)
     unfolding isRecord mayFollow isFull if-then
     settings-turn =
         let body = bytesFrom 4 4 (j .settings) 0 in
         let st : Stands s 0 settings-part = stands-first settings-part poses-part to-poses-stands in
         let h = header-stands 1 16 body (length-bytesFrom 4 4 (j .settings) 0) (lit< tt) (lit< tt) st in
-        turn room s start (now 0 0 0 1) emptyJob (firsts j 0 0 0) 1 16 (cursor-start s) (lit< tt) h refl refl refl refl
+        turn room s firstCursor (now 0 0 0 1) emptyJob (firsts j 0 0 0) 1 16 (cursor-start s) (lit< tt) h refl refl refl refl
         (holds-settings s 0 emptyJob (h .kind-is) (j .settings)
         (values-stand 4 (λ k. getD (j .settings) (0 + k) 0) 4 (λ k. settings-wide (0 + k)) (body-stands 1 body st)
         ∙ more-taken (j .settings) 0 4 (omega arith) ∙ take-all 4 (j .settings) (omega arith)))
@@ -313,7 +313,7 @@ module _ (room : Tally) (j : Job) (p e f : ℕ) (s : List ℕ) where
     read-back : reading room s ≡ taken (record { poses = p; edges = e; fixed = f }) j
     read-back = from-start room s ∙ settings-turn ∙ poses-all p 0 1 (omega arith) (lit< tt) (omega arith)
 
-pub written-read : (room : Tally) (j : Job) → Whole j → tallyOf j .poses ≤ room .poses → tallyOf j .edges ≤ room .edges → tallyOf j .fixed ≤ room .fixed
+pub written-read : (room : Tally) (j : Job) → JobFits j → tallyOf j .poses ≤ room .poses → tallyOf j .edges ≤ room .edges → tallyOf j .fixed ≤ room .fixed
     → reading room (encoded j) ≡ taken (tallyOf j) j
 unfolding encoded
 written-read room j w a b c =
@@ -323,7 +323,7 @@ written-read room j w a b c =
 taken-job : (t t' : Tally) (j j' : Job) → taken t j ≡ taken t' j' → j ≡ j'
 taken-job t t' j j' e = cc
 
-pub same-bytes-same-job : (j j' : Job) → Whole j → Whole j' → encoded j ≡ encoded j' → j ≡ j'
+pub same-bytes-same-job : (j j' : Job) → JobFits j → JobFits j' → encoded j ≡ encoded j' → j ≡ j'
 same-bytes-same-job j j' w w' e =
     let t = tallyOf j in
     let t' = tallyOf j' in
@@ -333,7 +333,7 @@ same-bytes-same-job j j' w w' e =
     ∙ ap (reading room) e ∙ written-read room j' w' (omega arith) (omega arith) (omega arith))
 
 -- every job that is read is such a job
-pub read-whole : (room : Tally) (s : List ℕ) (t : Tally) (j : Job) → Bytes s → reading room s ≡ taken t j → Whole j
+pub read-whole : (room : Tally) (s : List ℕ) (t : Tally) (j : Job) → Bytes s → reading room s ≡ taken t j → JobFits j
 read-whole room s t j b e =
     let n = read-lengths room s t j e in
     let y = read-tally room s t j e .0 in

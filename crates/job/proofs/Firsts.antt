@@ -19,12 +19,12 @@ use Rattle.job_records.specs.declared.Step.{Step}
 use Rattle.job_records.specs.declared.Step.the-variants as step
 use Rattle.job_records.specs.Records.{kindAt, faultOf, endFaults, behind, closed, stepFrom, recordStep}
 use Rattle.job.specs.Format.{Job}
-use Rattle.job.specs.Format.{holding, taken, refused, reading, start, emptyJob}
+use Rattle.job.specs.Format.{holding, taken, refused, reading, firstCursor, emptyJob}
 use Rattle.job.proofs.Stepping.{CursorIn, cursor-on, cursor-start, from, from-start, from-on, from-done, from-stop}
 
 -- reading comes to a cursor, with a job: over records without a fault
 pub data Comes (room : Tally) (s : List ℕ) : Cursor → Job → Type 0 where
-  begins : Comes room s start emptyJob
+  begins : Comes room s firstCursor emptyJob
   passes : {c d : Cursor} {j : Job} → Comes room s c j → recordStep room s c ≡ step.On d → Comes room s d (holding s (c .at) j)
 
 module _ (room : Tally) (s : List ℕ) where
@@ -61,7 +61,7 @@ module _ (room : Tally) (s : List ℕ) where
           next d (passes w e) (omega arith)
 
   halts : Halts
-  halts = halts-from (suc (length s)) start emptyJob begins (omega arith)
+  halts = halts-from (suc (length s)) firstCursor emptyJob begins (omega arith)
 
 taken-not-refused : {t : Tally} {j : Job} {r : Refusal} → taken t j ≡ refused r → ⊥
 taken-not-refused e = let z : _≡_ {A = ℕ} 0 1 = cc in omega arith

@@ -20,7 +20,7 @@ use Rattle.job.specs.declared.Scanned.the-variants as scanned
 use Rattle.job_records.specs.Bytes.{valuesAt, pasted}
 use Rattle.job_records.specs.Records.{kindAt, lengthAt, isFull, faultOf, one, behind, recordStep}
 use Rattle.job.specs.Format.{Job, numbersIf, holding, Reading, reading}
-use Rattle.job.specs.Format.{start, emptyJob, Space, space, roomIn, filled, scannedAs, IsTaken, taking, filledBy}
+use Rattle.job.specs.Format.{firstCursor, emptyJob, Space, space, roomIn, filled, scannedAs, IsTaken, taking, filledBy}
 use Rattle.job.proofs.Pasting.{pasted-none, pasted-more, length-pasted}
 use Rattle.job.proofs.Stepping.{CursorIn, Kind, settings, pose, edge, fixed, end, fault-free, room-for-pose, room-for-edge, room-for-fixed, went-on}
 use Rattle.job.proofs.Stepping.{cursor-on, cursor-start, from, from-start, from-on, from-done, from-stop}
@@ -32,7 +32,7 @@ pub record Seen (room : Tally) (s : List ℕ) (c : Cursor) : Type 0 where
   pub job : Job
   pub is : reading room s ≡ from room s c job
 
-abbrev pub seen-start : (room : Tally) (s : List ℕ) → Seen room s start
+abbrev pub seen-start : (room : Tally) (s : List ℕ) → Seen room s firstCursor
 seen-start room s = record { cursor = cursor-start s; job = emptyJob; is = from-start room s }
 
 module _ {room : Tally} {s : List ℕ} {c : Cursor} (h : Seen room s c) where
@@ -235,7 +235,7 @@ module _ {room : Tally} {s : List ℕ} {l₀ : Space} {c : Cursor} {l : Space} (
       subst (λ (y : Cursor). Held room s l₀ y m) (sym w) q
 
 -- at the start, where a record is taken, and at the end
-pub held-start : (room : Tally) (s : List ℕ) (l₀ : Space) → room ≡ roomIn l₀ → Held room s l₀ start l₀
+pub held-start : (room : Tally) (s : List ℕ) (l₀ : Space) → room ≡ roomIn l₀ → Held room s l₀ firstCursor l₀
 unfolding filled
 held-start room s l₀ r =
     record {

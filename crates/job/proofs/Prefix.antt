@@ -23,7 +23,7 @@ use Rattle.job_records.specs.declared.Step.the-variants as step
 use Rattle.job_records.specs.Bytes.{valueAt, valuesAt}
 use Rattle.job_records.specs.Records.{kindAt, lengthAt, isRecord, mayFollow, isFull, faultOf, counted, stepFrom, recordStep}
 use Rattle.job.specs.Format.{Job, readAtMost}
-use Rattle.job.specs.Format.{holding, readOn, readFrom, reading, start, emptyJob}
+use Rattle.job.specs.Format.{holding, readOn, readFrom, reading, firstCursor, emptyJob}
 use Rattle.job.proofs.Stepping.{Kind, settings, pose, edge, fixed, end, kind-of, fault-free, first, room-for-pose, room-for-edge, room-for-fixed}
 use Rattle.job.proofs.Stepping.{went-on, enough, cursor-start}
 
@@ -36,7 +36,7 @@ record Within (room : Tally) (c : Cursor) : Type 0 where
   pub edges-most : c .had .edges ≤ room .edges
   pub fixed-most : c .had .fixed ≤ room .fixed
 
-within-start : (room : Tally) → Within room start
+within-start : (room : Tally) → Within room firstCursor
 within-start room = record { fresh = λ z. refl; place = omega arith; poses-most = omega arith; edges-most = omega arith; fixed-most = omega arith }
 
 -- a record of each kind passed
@@ -184,8 +184,8 @@ module _ (room : Tally) (s : List ℕ) (b : ℕ) (most : readAtMost room ≤ b) 
   unfolding reading
   cut-same =
       let z = seen in
-      enough room (take b s) (suc (length (take b s))) (suc (length s)) start emptyJob (cursor-start (take b s)) (omega arith) (omega arith)
-      ∙ same (suc (length s)) start emptyJob (within-start room)
+      enough room (take b s) (suc (length (take b s))) (suc (length s)) firstCursor emptyJob (cursor-start (take b s)) (omega arith) (omega arith)
+      ∙ same (suc (length s)) firstCursor emptyJob (within-start room)
 
 pub prefix : (room : Tally) (s : List ℕ) (b : ℕ) → readAtMost room ≤ b → reading room (take b s) ≡ reading room s
 prefix room s b h =

@@ -23,7 +23,7 @@ use Rattle.job_records.specs.declared.Step.the-variants as step
 use Rattle.job_records.specs.Records.{kindAt, lengthAt, isRecord, mayFollow, isFull, recordFaults}
 use Rattle.job_records.specs.Records.{faultOf, endFaults, one, behind, closed, stepFrom, recordStep}
 use Rattle.job.specs.Format.{Job}
-use Rattle.job.specs.Format.{holding, Reading, taken, refused, readOn, readFrom, reading, start, emptyJob}
+use Rattle.job.specs.Format.{holding, Reading, taken, refused, readOn, readFrom, reading, firstCursor, emptyJob}
 
 -- ---- kinds and lengths
 
@@ -112,7 +112,7 @@ pub record Went-on (room : Tally) (s : List ℕ) (c d : Cursor) : Type 0 where
   pub no-end : kindAt s (c .at) ≡ 5 → ⊥
   pub is : d ≡ behind s c
 
-pub record Ended (room : Tally) (s : List ℕ) (c : Cursor) : Type 0 where
+pub record AtEnd (room : Tally) (s : List ℕ) (c : Cursor) : Type 0 where
   pub fine : faultOf room s c ≡ verdict.Fine
   pub end : kindAt s (c .at) ≡ 5
   pub last : length s ≡ c .at + 4
@@ -144,11 +144,11 @@ went-on room s c d e = go (faultOf room s c) (eqb (kindAt s (c .at)) 5) refl ref
           is = on-is (behind s c) d (subst (λ (y : Bool). if-then y (closed (says (endFaults s) (c .at + 4))) (step.On (behind s c)) ≡ step.On d) q x);
         }
 
-pub ended : (room : Tally) (s : List ℕ) (c : Cursor) → recordStep room s c ≡ step.Done → Ended room s c
+pub ended : (room : Tally) (s : List ℕ) (c : Cursor) → recordStep room s c ≡ step.Done → AtEnd room s c
 unfolding recordStep if-then
 ended room s c e = go (faultOf room s c) (eqb (kindAt s (c .at)) 5) refl refl e
   where
-    go : (v : Verdict) (b : Bool) → faultOf room s c ≡ v → eqb (kindAt s (c .at)) 5 ≡ b → stepFrom s c v ≡ step.Done → Ended room s c
+    go : (v : Verdict) (b : Bool) → faultOf room s c ≡ v → eqb (kindAt s (c .at)) 5 ≡ b → stepFrom s c v ≡ step.Done → AtEnd room s c
     go (verdict.Refused r) b p q x = absurd (let z : _≡_ {A = ℕ} 0 1 = cc in omega arith)
     go verdict.Fine false p q x =
         let y : step.On (behind s c) ≡ step.Done =
@@ -182,7 +182,7 @@ cursor-on room s c d i e =
     let q : CursorIn s (behind s c) × (c .at < behind s c .at) = ((h, omega arith, omega arith, omega arith), omega arith) in
     subst (λ (x : Cursor). CursorIn s x × (c .at < x .at)) (sym (w .is)) q
 
-pub cursor-start : (s : List ℕ) → CursorIn s start
+pub cursor-start : (s : List ℕ) → CursorIn s firstCursor
 cursor-start s = (omega arith, omega arith, omega arith, omega arith)
 
 -- ---- reading goes on. The count of records is larger than the bytes that are left, and so never ends it
@@ -210,9 +210,9 @@ module _ (room : Tally) (s : List ℕ) where
   abbrev pub from : Cursor → Job → Reading
   from c j = readFrom (suc (length s - c .at)) room s c j
 
-  pub from-start : reading room s ≡ from start emptyJob
+  pub from-start : reading room s ≡ from firstCursor emptyJob
   unfolding reading
-  from-start = enough (suc (length s)) (suc (length s - 0)) start emptyJob (cursor-start s) (omega arith) (omega arith)
+  from-start = enough (suc (length s)) (suc (length s - 0)) firstCursor emptyJob (cursor-start s) (omega arith) (omega arith)
 
   pub from-on : (c d : Cursor) (j : Job) → CursorIn s c → recordStep room s c ≡ step.On d → from c j ≡ from d (holding s (c .at) j)
   unfolding readFrom

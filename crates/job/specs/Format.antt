@@ -78,8 +78,8 @@ sizeOf t = 24 + 100 * t .poses + 44 * t .edges + 8 * t .fixed
 
 -- ---- reading, from record to record
 
-abbrev pub start : Cursor
-start = record { at = 0; last = 0; had = record { poses = 0; edges = 0; fixed = 0 } }
+abbrev pub firstCursor : Cursor
+firstCursor = record { at = 0; last = 0; had = record { poses = 0; edges = 0; fixed = 0 } }
 
 -- what the record at a place holds
 abbrev pub numbersIf : Bool → List ℕ → List ℕ
@@ -123,7 +123,7 @@ readFrom (suc n) room s c j = readOn (readFrom n room s) s c j (recordStep room 
 
 -- every record takes four bytes or more, so there are fewer records than bytes
 unfoldable pub reading : Tally → List ℕ → Reading
-reading room s = readFrom (suc (length s)) room s start emptyJob
+reading room s = readFrom (suc (length s)) room s firstCursor emptyJob
 
 -- what stands past so many bytes changes no answer: as much as a job can take, with one more record of the longest kind in the place of its end, and a byte
 abbrev pub readAtMost : Tally → ℕ

@@ -4,7 +4,7 @@ ghost use Prim.Native.Nat.{_+_, _*_, _/_, _<_, _≤_, _^_, min};
 ghost use lib.ListN.{length};
 ghost use Rattle.numbers.specs.Notation.{was, became};
 ghost use Rattle.job_records.specs.Bytes.{valueAt, valuesAt, pasted, bytesOf, bytesFrom};
-ghost use Rattle.job.specs.Format.{scannedAs, IsTaken, taking, filledBy, start as Format·start, reading, settingsFrom, space, roomIn, readInto};
+ghost use Rattle.job.specs.Format.{scannedAs, IsTaken, taking, filledBy, firstCursor, reading, settingsFrom, space, roomIn, readInto};
 ghost use Rattle.job.specs.Format.{settingsRecord, poseRecord, edgeRecord, fixedRecord, encoded, sizeOf, settingNumbers, jobOf, tallyOf};
 ghost use Rattle.job_records.specs.Records.{kindAt, faultOf};
 ghost use mathlib.Core.List.{_++_};
@@ -92,8 +92,8 @@ fn take32(s: &[u8], at: usize, to: &mut [u32], from: usize, n: usize)
 
 // ---- reading: the records are gone through once to see whether the job is taken, and once more to take it
 
-fn start() -> Cursor
-    ensures { λ r. ⌜ r ≡ Format·start ⌝ }
+fn first_cursor() -> Cursor
+    ensures { λ r. ⌜ r ≡ firstCursor ⌝ }
 {
     Cursor {
         at: 0,
@@ -109,7 +109,7 @@ fn start() -> Cursor
 fn scan(room: Tally, s: &[u8]) -> Scanned
     ensures { λ r. ⌜ r ≡ scannedAs (reading room (was s)) ⌝ }
 {
-    let mut c = start();
+    let mut c = first_cursor();
     loop {
         match job_records::step_at(room, s, c) {
             Step::On(d) => {
@@ -168,7 +168,7 @@ fn take_records(
     ensures { λ _. ⌜ space (became poses) (became ends) (became edges) (became fixed) ≡
         filledBy (reading room (was s)) (space (was poses) (was ends) (was edges) (was fixed)) ⌝ }
 {
-    let mut c = start();
+    let mut c = first_cursor();
     loop {
         match job_records::step_at(room, s, c) {
             Step::On(d) => {

@@ -19,9 +19,6 @@ nan-of f n h = sym (go (ofBits f n) (sym (nanBits-is f n) ∙ (nanBits-above f n
     go (inf s) e = absurd (let y : _≡_ {A = ℕ} 0 1 = cc in omega arith)
     go (fin s m k) e = absurd (let y : _≡_ {A = ℕ} 0 1 = cc in omega arith)
 
-pub not-nan : (f : Format) (n : ℕ) → n % top f ≤ ones f * hid f → T (not (nanBits f n))
-not-nan f n h = rw (nanBits-above f n, le-ltb (ones f * hid f) (n % top f) h) tt
-
 pub nan32 : div binary32 (ofBits binary32 0) (ofBits binary32 0) ≡ nan
 unfolding div ofBits ofFields odd
 nan32 = refl

@@ -6,7 +6,7 @@ use Prim.Native.Nat.{ℕ, zero, suc, _<_}
 use native.Mathlib.Omega.{arith}
 use Rattle.numbers.specs.declared.Went.{Went}
 use Rattle.numbers.specs.declared.Went.the-variants.{Well, Bad}
-use Rattle.numbers.specs.Walks.{Ended, done, stopped, turn, stepOn, each, well, only, andThen}
+use Rattle.numbers.specs.Walks.{Ended, done, stopped, stepEnd, stepOn, each, well, only, andThen}
 
 -- ---- two rows
 module _ {S : Type 0} (P Q : S → S → Type 0) where
@@ -23,7 +23,7 @@ module _ {S : Type 0} (P Q : S → S → Type 0) where
   Abreast (done s) (stopped i because t) = ⊥
   Abreast (stopped k why s) (done t) = ⊥
 
-  turn-abreast : (n : ℕ) (x y : Went × S) → Together x y → Abreast (turn n x) (turn n y)
+  turn-abreast : (n : ℕ) (x y : Went × S) → Together x y → Abreast (stepEnd n x) (stepEnd n y)
   turn-abreast n (Well, s) (Well, t) p = p
   turn-abreast n (Bad why, s) (Bad because, t) q = (refl, q .0, q .1)
   turn-abreast n (Well, s) (Bad because, t) z = z

@@ -29,7 +29,7 @@ or-split : (a b : Bool) → T (a || b) → T a ⊎ T b
 or-split true b t = inl tt
 or-split false b t = inr t
 
-lt-or-eq : (a b : ℕ) → T (ltb a b || (eqb a b && true)) → a ≤ b
+pub lt-or-eq : (a b : ℕ) → T (ltb a b || (eqb a b && true)) → a ≤ b
 lt-or-eq a b t = elim (or-split (ltb a b) (eqb a b && true) t) [ inl u ↦ le-of-lt (ltb→lt a b u) | inr u ↦ le-of-eq (eqb→eq a b (and-l (eqb a b) true u)) ]
 
 -- ---- plain values by their fractions

@@ -5,13 +5,13 @@ use Prim.Native.Nat.{ℕ, zero, suc, _+_, _*_, _<_}
 use native.Mathlib.Nat.{add-zero, add-suc, zero-mul, suc-mul}
 use native.Mathlib.Omega.{arith}
 use Rattle.numbers.specs.Notation.{if-then}
-use Rattle.numbers.specs.Walks.{Ended, done, stopped, every, turn, stepOn, each, well, andThen}
+use Rattle.numbers.specs.Walks.{Ended, done, stopped, every, stepEnd, stepOn, each, well, andThen}
 use Rattle.numbers.specs.declared.Failure.the-variants.{Numerical}
 use Rattle.numbers.specs.declared.Went.{Went}
 use Rattle.numbers.specs.declared.Went.the-variants.{Well, Bad}
 
 module _ {S : Type 0} where
-  well-turn : (n : ℕ) (x : Went × S) → well (turn n x) ≡ x
+  well-turn : (n : ℕ) (x : Went × S) → well (stepEnd n x) ≡ x
   well-turn n (Well, s) = refl
   well-turn n (Bad why, s) = refl
 

@@ -14,7 +14,7 @@ use Rattle.numbers.specs.declared.Failure.{Failure}
 use Rattle.numbers.specs.declared.Went.{Went}
 use Rattle.numbers.specs.declared.Went.the-variants.{Well, Bad}
 use Rattle.numbers.proofs.Tests.{and-first, and-second}
-use Rattle.numbers.specs.Walks.{some, every, count, sumOf, Ended, done, stopped, turn, stepOn, each, well, andThen}
+use Rattle.numbers.specs.Walks.{some, every, count, sumOf, Ended, done, stopped, stepEnd, stepOn, each, well, andThen}
 
 pub sum-more : (k : Format) (f : ℕ → Float) (n : ℕ) (s : Float) → s ≡ sumOf k f n → add k s (f n) ≡ sumOf k f (n + 1)
 unfolding sumOf
@@ -186,7 +186,7 @@ each-ext f g zero s h = refl
 each-ext {S} f g (suc n) s h = rw (each-ext f g n s (λ k l. h k (omega arith))) (go (each g n s))
   where
     go : (e : Ended S) → stepOn e n f ≡ stepOn e n g
-    go (done s) = ap (turn n) (h n (omega arith) s)
+    go (done s) = ap (stepEnd n) (h n (omega arith) s)
     go (stopped k why s) = refl
 
 -- every step of a row that went well went well, from somewhere
@@ -195,7 +195,7 @@ unfolding each
 each-went {S} f zero s t e k h = absurd (omega arith)
 each-went {S} f (suc n) s t e k h = go (each f n s) (λ v q l. each-went f n s v q k l) refl e
   where
-    last : (u : S) (x : Went × S) → f n u ≡ x → turn n x ≡ done t → f n u .0 ≡ Well
+    last : (u : S) (x : Went × S) → f n u ≡ x → stepEnd n x ≡ done t → f n u .0 ≡ Well
     last u (Well, v) q r = rw q
     last u (Bad why, v) q r = let z : _≡_ {A = ℕ} 0 1 = cc in absurd (omega arith)
 

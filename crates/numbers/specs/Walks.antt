@@ -45,12 +45,12 @@ pub data Ended (S : Type 0) : Type 0 where
   done : S → Ended S
   stopped : ℕ → Failure → S → Ended S
 
-abbrev pub turn : {S : Type 0} → ℕ → Went × S → Ended S
-turn n (Well, s) = done s
-turn n (Bad why, s) = stopped n why s
+abbrev pub stepEnd : {S : Type 0} → ℕ → Went × S → Ended S
+stepEnd n (Well, s) = done s
+stepEnd n (Bad why, s) = stopped n why s
 
 abbrev pub stepOn : {S : Type 0} → Ended S → ℕ → (ℕ → S → Went × S) → Ended S
-stepOn (done s) n f = turn n (f n s)
+stepOn (done s) n f = stepEnd n (f n s)
 stepOn (stopped k why s) n f = stopped k why s
 
 -- f 0, f 1, .. f (n - 1), one after the other, up to the first that does not go well

@@ -19,7 +19,7 @@ use Rattle.numbers.proofs.Tests.{neither-second}
 use Rattle.numbers.proofs.Reading.{ask-fine, row-at}
 use Rattle.numbers.proofs.Speaking.{row-speaks}
 use Rattle.checks.specs.Input.{Input, graphOf, lent}
-use Rattle.checks.specs.Table.{rows, countsOf, settle, checks}
+use Rattle.checks.specs.Table.{rows, countsOf, checkedBy, checks}
 use Rattle.rows.specs.Tests.{badGravity, unfit, tooMany}
 use Rattle.graph.specs.declared.Manifold.{Manifold}
 use Rattle.rows.specs.declared.Settings.{Settings}
@@ -81,7 +81,7 @@ module _ (m : Manifold) (set : Settings) (room : Room) (s : Scan) (work32 work64
     large-closed : closedRun i work32 work64 original out
         ≡ record { answer = closed.Refused said; work32 = work32; work64 = work64; original = original; out = out }
     unfolding closedRun checks
-    large-closed = rw (demand-one-before i work32 work64 out said (ap (λ (v : Verdict). settle v (countsOf i)) turned))
+    large-closed = rw (demand-one-before i work32 work64 out said (ap (λ (v : Verdict). checkedBy v (countsOf i)) turned))
 
   -- the first 1,025 edges are as good as all
   pub built-enough : closedRun (graphTo (min (edgeCount s) 1025) m set room s) work32 work64 original out

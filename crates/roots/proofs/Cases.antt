@@ -16,7 +16,7 @@ use lib.Ieee.Exact.{HasValue}
 use borrow.Author.Tests.{ltb-true, ltb-false}
 use Rattle.roots.specs.Roots.{rooted}
 use Rattle.numbers.proofs.Read.{by-fields, read-low, read-high, read-inf, no-nan-bits}
-use Rattle.numbers.proofs.Word.{rest-pos}
+use Rattle.numbers.proofs.Word.{rest-pos, quotient-le, rest-zero}
 use Rattle.numbers.proofs.Tests.{true-or-false, and-first, and-second}
 
 hid-pos : (f : Format) → 0 < hid f
@@ -51,14 +51,6 @@ negative-value f (fin true (suc m) e) n c P h = refl
 negative-inf : (f : Format) → rooted f (inf true) ≡ nan
 unfolding rooted
 negative-inf f = refl
-
-quotient-le : (h b o : ℕ) → 0 < h → b ≤ o * h → b / h ≤ o
-quotient-le h b o H l = le-of-mul-le-mul-right (le-trans (le-trans (le-add-right (b / h * h) (b % h)) (le-of-eq (div-add-mod' b h))) l) H
-
-rest-zero : (h b o : ℕ) → b ≤ o * h → b / h ≡ o → b % h ≡ 0
-rest-zero h b o l e =
-    let x : o * h + b % h ≡ b = ap (λ (y : ℕ). y * h + b % h) (sym e) ∙ div-add-mod' b h in
-    omega arith
 
 negative-fields : (f : Format) (b : ℕ) → 0 < b → b ≤ ones f * hid f → rooted f (ofFields f true (b / hid f) (b % hid f)) ≡ nan
 negative-fields f b p l = elim (eq-or-lt-of-le (quotient-le (hid f) b (ones f) (hid-pos f) l)) [

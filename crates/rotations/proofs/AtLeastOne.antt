@@ -14,6 +14,7 @@ use lib.Ieee.Order.{round-mono}
 use lib.Ieee.Positive.{le→cross, above-of-le}
 use lib.Ieee.Scale.{finite}
 use Rattle.numbers.specs.Notation.{ratio, num, if-then}
+use Rattle.numbers.proofs.Order.{lt-or-eq}
 use Rattle.rotations.specs.declared.Mat3F32.{Mat3F32}
 use Rattle.rotations.specs.FromMatrix.{byRule, pOf}
 
@@ -70,14 +71,6 @@ add-more f (fin false m e) (fin true n d) p q =
 
 -- ---- the rule's tests, and what is not below 0 by them
 
-at-most : (a b : ℕ) → T (ltb a b || (eqb a b && true)) → a ≤ b
-at-most a b = go (ltb a b) (eqb a b) (ltb→lt a b) (eqb→eq a b)
-  where
-    go : (x y : Bool) → (T x → a < b) → (T y → a ≡ b) → T (x || (y && true)) → a ≤ b
-    go true y l e t = let h : a < b = l tt in omega arith
-    go false true l e t = let h : a ≡ b = e tt in omega arith
-    go false false l e t = absurd t
-
 none : (m : ℕ) (e : ℤ) → m * up e ≤ 0 → T (eqb m 0)
 none zero e h = tt
 none (suc m) e h = let k : 0 < suc m * up e = mul-pos (omega arith) (up-pos e) in absurd (not-le-of-lt k h)
@@ -89,7 +82,7 @@ neg-notBelow (inf true) h = tt
 neg-notBelow (inf false) h = absurd (subst T (sym h) tt)
 neg-notBelow (fin true m e) h = tt
 neg-notBelow (fin false m e) h =
-    none m e (simp (mul-one, zero-mul) at (at-most (m * up e * 1) (0 * 1 * down e) (subst T (sym h) tt)))
+    none m e (simp (mul-one, zero-mul) at (lt-or-eq (m * up e * 1) (0 * 1 * down e) (subst T (sym h) tt)))
 
 self-notBelow : (x : Float) → T (not (isNan x)) → le x nought ≡ false → T (notBelow x)
 unfolding le isNan

@@ -13,7 +13,8 @@ use lib.Ieee.Fits.{two, reach, two-le-pos, round-fits}
 use lib.Ieee.Exact.{HasValue, round-exact}
 use Rattle.rounding.specs.Rounding.{rounded}
 use Rattle.numbers.proofs.Read.{by-fields, read-low, read-high, read-inf, no-nan-bits}
-use Rattle.numbers.proofs.Write.{value-bits, twice-hid}
+use Rattle.numbers.proofs.Word.{quotient-le, rest-zero}
+use Rattle.numbers.proofs.Write.{value-bits, twice-hid, within-zero}
 use Rattle.rounding.proofs.Fractions.{rounded-at}
 
 -- q * 2 ^ j smallest values, q of no more digits than the format keeps
@@ -29,20 +30,11 @@ units-own f x s q j F h small room =
 above : (p e x : ℕ) → 2 ≤ p → 0 < x → x < 2 * e + 1 → p + (x - 1) ≤ e + p - 2 + suc e
 above p e x P g l = omega arith
 
-below : (p e : ℕ) → 2 ≤ p → p ≤ suc e → p + 0 ≤ e + p - 2 + suc e
-below p e P h = omega arith
-
 carry : (h w t : ℕ) → w ≡ 2 * h → t < h → h + t < w
 carry h w t e l = omega arith
 
 fit : (h w t : ℕ) → w ≡ 2 * h → t < h → t < w
 fit h w t e l = omega arith
-
-quotient-le : (h b o : ℕ) → 0 < h → b ≤ o * h → b / h ≤ o
-quotient-le h b o H l = le-of-mul-le-mul-right (le-trans (le-trans (le-add-right (b / h * h) (b % h)) (le-of-eq (div-add-mod' b h))) l) H
-
-rest-zero : (h b o : ℕ) → b ≤ o * h → b / h ≡ o → b % h ≡ 0
-rest-zero h b o l e = let x : o * h + b % h ≡ b = ap (λ (y : ℕ). y * h + b % h) (sym e) ∙ div-add-mod' b h in omega arith
 
 fin-own : (f : Format) (s : Bool) (m : ℕ) (e : ℤ) → T (fits f (fin s m e)) → rounded f (fin s m e) ≡ fin s m e
 unfolding isNan
@@ -64,7 +56,7 @@ fin-own f s m e F =
             | inl z ↦
                 units-own f x sign (b % h) 0 F
                 (subst (λ (y : Float). HasValue y sign (b % h * 2 ^ 0) (2 ^ low f)) (sym (is ∙ ap (λ (y : ℕ). ofFields f sign y (b % h)) z)) (read-low f sign (b % h)))
-                (fit h (2 ^ prec f) (b % h) W t) (below (prec f) (emax f) (two f) (reach f))
+                (fit h (2 ^ prec f) (b % h) W t) (within-zero (prec f) (emax f) (two f) (reach f))
             | inr p ↦
                 units-own f x sign (h + b % h) (b / h - 1) F
                 (subst (λ (y : Float). HasValue y sign ((h + b % h) * 2 ^ (b / h - 1)) (2 ^ low f)) (sym is) (read-high f sign (b / h) (b % h) p g))

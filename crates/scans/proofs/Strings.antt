@@ -1,4 +1,4 @@
--- Rows of one width, strung one after another: their length, an element by the number of its row, and an array that is filled with them from the start.
+-- Rows of one width, strung one after another (`strung`, numbers): an array that is filled with them from the start, and one row put into it.
 -- Assumes nothing.
 use mathlib.Core.Path.{_≡_, sym, ap, ap₂, _∙_}
 use mathlib.Core.List.{List, [], _∷_, _++_}

@@ -23,7 +23,7 @@ use Rattle.profile.proofs.Index.{before, le-or-lt, one-line}
 -- ---- the places
 
 module _ (n : ℕ) where
-  at-system : (i j : ℕ) → j ≤ i → i < n → placeOf n (j * n + i) ≡ kept
+  pub at-system : (i j : ℕ) → j ≤ i → i < n → placeOf n (j * n + i) ≡ kept
   unfolding placeOf
   at-system i j h l =
       let g : j < n = omega arith in
@@ -39,7 +39,7 @@ module _ (n : ℕ) where
   unfolding placeOf
   at-root q h l = sym (left _ (le-ltb q (n * n) h) (taken _ (lt-ltb q (n * n + n) l) refl))
 
-  at-gradient : (q : ℕ) → n * n + n ≤ q → q < n * n + n + n → placeOf n q ≡ kept
+  pub at-gradient : (q : ℕ) → n * n + n ≤ q → q < n * n + n + n → placeOf n q ≡ kept
   unfolding placeOf
   at-gradient q h l = sym (left _ (le-ltb q (n * n) (omega arith)) (left _ (le-ltb q (n * n + n) h) (taken _ (lt-ltb q (n * n + n + n) l) refl)))
 
@@ -51,7 +51,7 @@ module _ (n : ℕ) where
       (left _ (le-ltb q (n * n + n) (omega arith))
       (left _ (le-ltb q (n * n + n + n) h) (taken _ (lt-ltb q (need n) l) refl))))
 
-  at-rest : (q : ℕ) → need n ≤ q → placeOf n q ≡ kept
+  pub at-rest : (q : ℕ) → need n ≤ q → placeOf n q ≡ kept
   unfolding placeOf
   at-rest q h =
       sym

@@ -245,7 +245,7 @@ fn solves(w: &mut [f32], n: usize, f: &[usize; 384], damping: f32) -> bool
     all_finite(w, n * n + n + n, n)
 }
 
-// How many of n numbers of the step are clearedAt.
+// How many of n numbers of the step are to be cleared.
 fn to_clear(found: bool, n: usize) -> usize
     ensures { λ r. ⌜ r ≡ cond found 0 n ⌝ }
 {

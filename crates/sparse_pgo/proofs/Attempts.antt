@@ -34,7 +34,7 @@ use Rattle.decisions.specs.declared.Outcome.the-variants as outcome
 use Rattle.trials.specs.Trials.{normOf, stepTolerance, moves, movedNumbers, triedAs, trialIn, tryAnswers, tryLeaves}
 use Rattle.trials.proofs.Steps.{norm-same, moves-same, moved-same}
 use Rattle.trials.proofs.Halves.{tried-halves, trial-front, accepted-front}
-use Rattle.sparse_pgo.specs.declared.Job.{Job}
+use Rattle.sparse_pgo.specs.declared.Setup.{Setup}
 use Rattle.sparse_pgo.specs.Parts.{numerics}
 use Rattle.sparse_pgo.specs.Numerics.{partsOn}
 use Rattle.sparse_pgo.specs.forms.Turns.{partsIn, heldIn, Lent, Holds, accepts, Attempted}
@@ -69,14 +69,14 @@ module _ (w : List Float) (n : ℕ) (d : Float) (long : need n ≤ length w) whe
   none-failed : (solvedAs w n d ≡ Step → ⊥) → solvedAs w n d ≡ Failed
   none-failed e = answer-is w n d long ∙ sym (left Step (solved-none e) refl)
 
-module _ {job : Job} {l : Links Edge} (st : State) {w32 w32' before : List Float} {answer : Solved}
-    (lent : Lent job w32 before) (h : Holds job l (heldIn job before) w32)
-    (s : (answer ≡ solvedAs w32 (job .n) (st .damping)) × (w32' ≡ solves.leaves w32 (job .n) (st .damping) (solvedAs w32 (job .n) (st .damping)))) where
+module _ {setup : Setup} {l : Links Edge} (st : State) {w32 w32' before : List Float} {answer : Solved}
+    (lent : Lent setup w32 before) (h : Holds setup l (heldIn setup before) w32)
+    (s : (answer ≡ solvedAs w32 (setup .n) (st .damping)) × (w32' ≡ solves.leaves w32 (setup .n) (st .damping) (solvedAs w32 (setup .n) (st .damping)))) where
   abbrev damping : Float
   damping = st .damping
 
   abbrev n : ℕ
-  n = job .n
+  n = setup .n
 
   -- the step of the system
   abbrev δ : ℕ → Float
@@ -98,7 +98,7 @@ module _ {job : Job} {l : Links Edge} (st : State) {w32 w32' before : List Float
   leaving : w32' ≡ solves.leaves (h .system) n damping (solvedAs (h .system) n damping)
   leaving = s .1 ∙ ap (λ (w : List Float). solves.leaves w n damping (solvedAs w n damping)) (h .work) ∙ same-leaves (h .system) n (h .steps) long damping
 
-  still : (x : ℕ → Float) → w32' ≡ workAfter (h .system) n x → Holds job l (heldIn job before) w32'
+  still : (x : ℕ → Float) → w32' ≡ workAfter (h .system) n x → Holds setup l (heldIn setup before) w32'
   still x e = record { system = h .system; steps = x; is-system = h .is-system; work = e }
 
   -- no step
@@ -112,12 +112,12 @@ module _ {job : Job} {l : Links Edge} (st : State) {w32 w32' before : List Float
     left-so : w32' ≡ workAfter (h .system) n nothing
     left-so = leaving ∙ ap (solves.leaves (h .system) n damping) (none-failed (h .system) n damping long no-step)
 
-    pub attempt-failed : length w32' ≡ need (job .n) → Attempted job l st before outcome.Failed w32' before
+    pub attempt-failed : length w32' ≡ need (setup .n) → Attempted setup l st before outcome.Failed w32' before
     unfolding partsOn numerics heard if-then
     attempt-failed k = record { answer = rw (h .is-system, unsolvable); held = refl; holds = still nothing left-so; long = k }
 
   -- a step, and its trial
-  module _ (some : answer ≡ Step) (sized : length w32' ≡ need (job .n)) (below : (p b : ℕ) → l .slot p ≡ Block b → b < job .free) where
+  module _ (some : answer ≡ Step) (sized : length w32' ≡ need (setup .n)) (below : (p b : ℕ) → l .slot p ≡ Block b → b < setup .free) where
     can : is-solvable ≡ true
     can = solved-step (h .system) n damping long (sym said ∙ some)
 
@@ -126,7 +126,7 @@ module _ {job : Job} {l : Links Edge} (st : State) {w32 w32' before : List Float
 
     -- the step as it is lent
     abbrev lent-step : List Float
-    lent-step = partFrom (job .n * job .n + job .n + job .n) w32'
+    lent-step = partFrom (setup .n * setup .n + setup .n + setup .n) w32'
 
     abbrev δ' : ℕ → Float
     δ' i = getD lent-step i nan
@@ -142,45 +142,45 @@ module _ {job : Job} {l : Links Edge} (st : State) {w32 w32' before : List Float
         let o : length w32' - (n * n + n + n) ≡ n = omega (arith, sized) in
         ap (normOf δ') (length-part (n * n + n + n) w32' ∙ o) ∙ norm-same δ' δ n reads
 
-    moves-are : moves (job .manifold) (l .slot) (job .poses) (heldIn job before) δ' ≡ moves (job .manifold) (l .slot) (job .poses) (heldIn job before) δ
-    moves-are = moves-same (job .manifold) (l .slot) (job .free) n δ' δ (lent .sized .unknowns) below reads (job .poses) (heldIn job before)
+    moves-are : moves (setup .manifold) (l .slot) (setup .poses) (heldIn setup before) δ' ≡ moves (setup .manifold) (l .slot) (setup .poses) (heldIn setup before) δ
+    moves-are = moves-same (setup .manifold) (l .slot) (setup .free) n δ' δ (lent .sized .unknowns) below reads (setup .poses) (heldIn setup before)
 
-    moved-are : movedNumbers (job .manifold) (l .slot) (heldIn job before) δ' ≡ movedNumbers (job .manifold) (l .slot) (heldIn job before) δ
-    moved-are = moved-same (job .manifold) (l .slot) (job .free) n δ' δ (lent .sized .unknowns) below reads (heldIn job before)
+    moved-are : movedNumbers (setup .manifold) (l .slot) (heldIn setup before) δ' ≡ movedNumbers (setup .manifold) (l .slot) (heldIn setup before) δ
+    moved-are = moved-same (setup .manifold) (l .slot) (setup .free) n δ' δ (lent .sized .unknowns) below reads (heldIn setup before)
 
     -- what is tried is what the run's numerics say
-    raw-is : numerics (partsIn job l) .attempt (heldIn job before) damping
+    raw-is : numerics (partsIn setup l) .attempt (heldIn setup before) damping
         ≡ if-then (lt (normOf δ n) stepTolerance) raw.Small
-        (triedAs (moves (job .manifold) (l .slot) (job .poses) (heldIn job before) δ) (costEnds l (poseAt (movedNumbers (job .manifold) (l .slot) (heldIn job before) δ))))
+        (triedAs (moves (setup .manifold) (l .slot) (setup .poses) (heldIn setup before) δ) (costEnds l (poseAt (movedNumbers (setup .manifold) (l .slot) (heldIn setup before) δ))))
     unfolding partsOn numerics if-then
     raw-is = rw (h .is-system, can)
 
-    tried-is : tryAnswers (job .manifold) l (st .cost) lent-step before ≡ heard (st .cost) (numerics (partsIn job l) .attempt (heldIn job before) damping)
+    tried-is : tryAnswers (setup .manifold) l (st .cost) lent-step before ≡ heard (st .cost) (numerics (partsIn setup l) .attempt (heldIn setup before) damping)
     tried-is =
-        tried-halves (job .manifold) (l .slot) δ' (job .poses) before (lent .double) l (st .cost) lent-step refl refl
+        tried-halves (setup .manifold) (l .slot) δ' (setup .poses) before (lent .double) l (st .cost) lent-step refl refl
         ∙ ap (heard (st .cost)) (rw (raw-is, norm-is, moves-are, moved-are))
 
-    moved-is : numerics (partsIn job l) .moved (heldIn job before) damping ≡ movedNumbers (job .manifold) (l .slot) (heldIn job before) δ'
+    moved-is : numerics (partsIn setup l) .moved (heldIn setup before) damping ≡ movedNumbers (setup .manifold) (l .slot) (heldIn setup before) δ'
     unfolding partsOn numerics if-then
     moved-is = rw (h .is-system, can) (sym moved-are)
 
     -- the poses that are held then
-    held-by : (o : Outcome) → heldIn job (tryLeaves o before (trialIn (job .manifold) (l .slot) δ' before))
-        ≡ if-then (accepts o) (movedNumbers (job .manifold) (l .slot) (heldIn job before) δ') (heldIn job before)
+    held-by : (o : Outcome) → heldIn setup (tryLeaves o before (trialIn (setup .manifold) (l .slot) δ' before))
+        ≡ if-then (accepts o) (movedNumbers (setup .manifold) (l .slot) (heldIn setup before) δ') (heldIn setup before)
     unfolding if-then
     held-by outcome.Failed = refl
     held-by outcome.Small = refl
-    held-by (outcome.Tried (trial.Accepted c)) = accepted-front (job .manifold) (l .slot) δ' (job .poses) before (lent .double)
-    held-by (outcome.Tried (trial.Rejected w)) = trial-front (job .manifold) (l .slot) δ' (job .poses) before (lent .double)
+    held-by (outcome.Tried (trial.Accepted c)) = accepted-front (setup .manifold) (l .slot) δ' (setup .poses) before (lent .double)
+    held-by (outcome.Tried (trial.Rejected w)) = trial-front (setup .manifold) (l .slot) δ' (setup .poses) before (lent .double)
 
     pub attempt-tried : {o : Outcome} {after : List Float}
-        → (o ≡ tryAnswers (job .manifold) l (st .cost) (partFrom (job .n * job .n + job .n + job .n) w32') before)
-        × (after ≡ tryLeaves o before (trialIn (job .manifold) (l .slot) (λ i. getD (partFrom (job .n * job .n + job .n + job .n) w32') i nan) before))
-        → Attempted job l st before o w32' after
+        → (o ≡ tryAnswers (setup .manifold) l (st .cost) (partFrom (setup .n * setup .n + setup .n + setup .n) w32') before)
+        × (after ≡ tryLeaves o before (trialIn (setup .manifold) (l .slot) (λ i. getD (partFrom (setup .n * setup .n + setup .n + setup .n) w32') i nan) before))
+        → Attempted setup l st before o w32' after
     attempt-tried {o} {after} v =
         record {
           answer = v .0 ∙ tried-is;
-          held = ap (heldIn job) (v .1) ∙ held-by o ∙ ap (λ (z : List Float). if-then (accepts o) z (heldIn job before)) (sym moved-is);
+          held = ap (heldIn setup) (v .1) ∙ held-by o ∙ ap (λ (z : List Float). if-then (accepts o) z (heldIn setup before)) (sym moved-is);
           holds = still δ left-with;
           long = sized;
         }

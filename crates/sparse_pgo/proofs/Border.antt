@@ -26,7 +26,7 @@ use Rattle.graph.proofs.Degrees.{dof-most}
 use Rattle.checks.proofs.Passed.{Passed, fit}
 use Rattle.retraction.specs.Retraction.{unitOf}
 use Rattle.profile.specs.Layout.{need}
-use Rattle.sparse_pgo.specs.declared.Job.{Job}
+use Rattle.sparse_pgo.specs.declared.Setup.{Setup}
 use Rattle.sparse_pgo.specs.declared.Answer.{Answer}
 use Rattle.sparse_pgo.specs.declared.Answer.the-variants as answer
 use Rattle.sparse_pgo.specs.Parts.{Parts, Whole, whole}
@@ -96,10 +96,10 @@ module _ (manifold : Manifold) (poses : List Float) (ends : List ℕ) (edges : L
   unfolding optimized
   run-turned r x e q = ap (afterChecks lentInput work32 work64 out) (sym q ∙ ap (λ (z : Checks). z .answer) e)
 
-  -- passed: the job, with gravity of unit length
+  -- passed: the setup, with gravity of unit length
   module _ (r : Checks) (c : Counts) (dof : ℕ) (f : Fitted lentInput r c dof) (unit : Manifold) (u : unit ≡ unitOf manifold) where
-    abbrev job : Job
-    job = record { manifold = unit; n = dof * c .free; poses = c .poses; free = c .free; settings = settings }
+    abbrev setup : Setup
+    setup = record { manifold = unit; n = dof * c .free; poses = c .poses; free = c .free; settings = settings }
 
     abbrev g : Graph Pose Edge
     g = graphOf lentInput
@@ -112,7 +112,7 @@ module _ (manifold : Manifold) (poses : List Float) (ends : List ℕ) (edges : L
         go Se3 = refl
         go (Gravity v) = refl
 
-    pub run-lent : Lent job (take (dof * c .free * (dof * c .free + 3)) work32) (take (24 * c .poses) work64)
+    pub run-lent : Lent setup (take (dof * c .free * (dof * c .free + 3)) work32) (take (24 * c .poses) work64)
     run-lent =
         record {
           sized = record { unknowns = ap (λ (z : ℕ). z * c .free) (f .dof-is ∙ sym unit-dof ∙ ap dofOf (sym u)); few = few f; poses = poses-most f };
@@ -120,22 +120,22 @@ module _ (manifold : Manifold) (poses : List Float) (ends : List ℕ) (edges : L
           double = length-take-le _ work64 (double-fits f) ∙ mul-comm 24 (c .poses);
         }
 
-    pub run-startable : Startable job
+    pub run-startable : Startable setup
     run-startable =
         let p = f .passed .settings in
         record { limited = p .most-limit; number = p .damping-finite; positive = p .damping-above; bounded = p .damping-most }
 
     -- its parts are the graph's
-    links-are : linksIn job ends edges (r .blocks) ≡ linksOf g
+    links-are : linksIn setup ends edges (r .blocks) ≡ linksOf g
     links-are = ap₂ (λ (b : List ℕ) (k : ℕ). lentLinks ends edges b k) (f .blocks-are) (f .free-are) ∙ links-same lentInput (f .passed .graph)
 
-    parts-are : partsIn job (linksIn job ends edges (r .blocks)) ≡ partsOf (unitOf manifold) settings g
+    parts-are : partsIn setup (linksIn setup ends edges (r .blocks)) ≡ partsOf (unitOf manifold) settings g
     parts-are =
-        ap (λ (m : Manifold). partsOn m (dof * c .free) (c .poses) settings (linksIn job ends edges (r .blocks))) u
-        ∙ ap (λ (n : ℕ). partsOn (unitOf manifold) n (c .poses) settings (linksIn job ends edges (r .blocks))) (n-is f ∙ ap (λ (z : ℕ). z * freeCount g) (sym unit-dof))
+        ap (λ (m : Manifold). partsOn m (dof * c .free) (c .poses) settings (linksIn setup ends edges (r .blocks))) u
+        ∙ ap (λ (n : ℕ). partsOn (unitOf manifold) n (c .poses) settings (linksIn setup ends edges (r .blocks))) (n-is f ∙ ap (λ (z : ℕ). z * freeCount g) (sym unit-dof))
         ∙ ap₂ (λ (k : ℕ) (l : Links Edge). partsOn (unitOf manifold) (dofOf (unitOf manifold) * freeCount g) k settings l) (f .poses-are) links-are
 
-    ran-is : whole (partsIn job (linksIn job ends edges (r .blocks))) settings poses ≡ ran lentInput
+    ran-is : whole (partsIn setup (linksIn setup ends edges (r .blocks))) settings poses ≡ ran lentInput
     unfolding ran
     ran-is = ap (λ (p : Parts (List Float) (List Float) (ℕ → Float)). whole p settings poses) parts-are
 
@@ -143,7 +143,7 @@ module _ (manifold : Manifold) (poses : List Float) (ends : List ℕ) (edges : L
     cleared n k w last h z t = ap (λ (v : List Float). v ++ drop n w) (z ∙ ap (λ (j : ℕ). replicate j (num 0)) (length-take-le n w h)) ∙ ap (λ (j : ℕ). zeroed j w) t
 
     pub run-fit : (a : Answer) (last32 last64 lastOut : List Float)
-        → Begun job (linksIn job ends edges (r .blocks)) poses (take (dof * c .free * (dof * c .free + 3)) work32) (take (24 * c .poses) work64) out a last32 last64 lastOut
+        → Begun setup (linksIn setup ends edges (r .blocks)) poses (take (dof * c .free * (dof * c .free + 3)) work32) (take (24 * c .poses) work64) out a last32 last64 lastOut
         → record { answer = a; work32 = last32 ++ drop (dof * c .free * (dof * c .free + 3)) work32; work64 = last64 ++ drop (24 * c .poses) work64; out = lastOut }
         ≡ optimized lentInput work32 work64 out
     unfolding optimized

@@ -27,7 +27,7 @@ use Rattle.decisions.specs.declared.End.{End}
 use Rattle.decisions.specs.declared.Next.{Next}
 use Rattle.decisions.specs.declared.Next.the-variants as next
 use Rattle.decisions.proofs.Machines.{played-held}
-use Rattle.sparse_pgo.specs.declared.Job.{Job}
+use Rattle.sparse_pgo.specs.declared.Setup.{Setup}
 use Rattle.sparse_pgo.specs.declared.Joined.{Joined}
 use Rattle.sparse_pgo.specs.declared.Answer.{Answer}
 use Rattle.sparse_pgo.specs.declared.Answer.the-variants as answer
@@ -48,33 +48,33 @@ counted q h = rw q at h
 -- ---- from the first cost on
 
 -- demand 3 bounds the iterations
-pub counts-fit : {job : Job} {l : Links Edge} {before after : List Float} {c : Float} {r : Next} → Startable job → T (fits binary32 (job .settings .damping)) → Iterated job l c before r after
+pub counts-fit : {setup : Setup} {l : Links Edge} {before after : List Float} {c : Float} {r : Next} → Startable setup → T (fits binary32 (setup .settings .damping)) → Iterated setup l c before r after
     → iterations (stateOf r) < 4294967296
-counts-fit {job} {l} {before} {after} {c} {r} start f h =
-    let held : Held (job .settings .limit) c (stateOf (played (numerics (partsIn job l)) (job .settings .limit) (job .settings .«cost_tolerance») c (job .settings .damping) (heldIn job before) .next))
-    = played-held (numerics (partsIn job l)) (job .settings .limit) (job .settings .«cost_tolerance») c (job .settings .damping) (heldIn job before)
-    (start .limited) f (start .positive) (not-above (job .settings .damping) (start .positive) (start .bounded)) in
-    let trials : iterations (stateOf r) ≤ job .settings .limit = rw (h .answer) (held .trials) in
-    let few : job .settings .limit ≤ 1000 = start .limited in
+counts-fit {setup} {l} {before} {after} {c} {r} start f h =
+    let held : Held (setup .settings .limit) c (stateOf (played (numerics (partsIn setup l)) (setup .settings .limit) (setup .settings .«cost_tolerance») c (setup .settings .damping) (heldIn setup before) .next))
+    = played-held (numerics (partsIn setup l)) (setup .settings .limit) (setup .settings .«cost_tolerance») c (setup .settings .damping) (heldIn setup before)
+    (start .limited) f (start .positive) (not-above (setup .settings .damping) (start .positive) (start .bounded)) in
+    let trials : iterations (stateOf r) ≤ setup .settings .limit = rw (h .answer) (held .trials) in
+    let few : setup .settings .limit ≤ 1000 = start .limited in
     omega arith
 
-module _ (job : Job) (l : Links Edge) (before : List Float) {found : Cost} (e : found ≡ costOf l (poseAt (take (job .poses * 12) before))) where
+module _ (setup : Setup) (l : Links Edge) (before : List Float) {found : Cost} (e : found ≡ costOf l (poseAt (take (setup .poses * 12) before))) where
   abbrev run : Whole (List Float)
-  run = whole (partsIn job l) (job .settings) (heldIn job before)
+  run = whole (partsIn setup l) (setup .settings) (heldIn setup before)
 
-  whole-is : (d : Ended Float) → costEnds l (poseAt (heldIn job before)) ≡ d → run ≡ wholeFrom (partsIn job l) (job .settings) (heldIn job before) d
+  whole-is : (d : Ended Float) → costEnds l (poseAt (heldIn setup before)) ≡ d → run ≡ wholeFrom (partsIn setup l) (setup .settings) (heldIn setup before) d
   unfolding whole partsOn
   whole-is d q = rw q
 
-  pub start-bad : {k : ℕ} {why : Failure} → found ≡ cost.Bad k why → Started job l before (answer.Refused (refusal 20 k)) before
+  pub start-bad : {k : ℕ} {why : Failure} → found ≡ cost.Bad k why → Started setup l before (answer.Refused (refusal 20 k)) before
   start-bad {k} {why} q = go why q
     where
-      go : (why : Failure) → found ≡ cost.Bad k why → Started job l before (answer.Refused (refusal 20 k)) before
+      go : (why : Failure) → found ≡ cost.Bad k why → Started setup l before (answer.Refused (refusal 20 k)) before
       go Numerical q =
           let w = sym (whole-is _ (cost-bad l _ found e k Numerical q .ends)) in
           record { answer = ap (λ (y : Whole (List Float)). y .answer) w; held = ap (λ (y : Whole (List Float)). y .held) w }
 
-  pub start-goes : {c : Float} {n : Next} {r : Answer} {after : List Float} → found ≡ cost.Of c → Iterated job l c before n after → r ≡ answerOf c n → Started job l before r after
+  pub start-goes : {c : Float} {n : Next} {r : Answer} {after : List Float} → found ≡ cost.Of c → Iterated setup l c before n after → r ≡ answerOf c n → Started setup l before r after
   start-goes {c} q h a =
       let w = sym (whole-is _ (cost-had l _ found e c q)) in
       record {
@@ -85,39 +85,39 @@ module _ (job : Job) (l : Links Edge) (before : List Float) {found : Cost} (e : 
 -- ---- poses in, the run, poses out, the work cleared
 
 -- the poses stand in the first half of w64
-pub record CopiedIn (job : Job) (poses w64 in64 : List Float) : Type 0 where
-  pub held : heldIn job in64 ≡ poses
+pub record CopiedIn (setup : Setup) (poses w64 in64 : List Float) : Type 0 where
+  pub held : heldIn setup in64 ≡ poses
   pub long : length in64 ≡ length w64
 
-pub copied-in : (job : Job) (poses w64 y : List Float) → length w64 ≡ job .poses * 24 → length poses ≡ job .poses * 12
-    → y ≡ copied poses (take (job .poses * 12) w64) → CopiedIn job poses w64 (y ++ drop (job .poses * 12) w64)
-copied-in job poses w64 y double size e =
-    let front : length (take (job .poses * 12) w64) ≡ job .poses * 12 = length-take-le (job .poses * 12) w64 (omega arith) in
-    let is : y ≡ poses = e ∙ copied-whole poses (take (job .poses * 12) w64) (front ∙ sym size) in
-    let n : length y ≡ job .poses * 12 = ap length is ∙ size in
-    let rest : length (drop (job .poses * 12) w64) ≡ length w64 - job .poses * 12 = length-drop (job .poses * 12) w64 in
+pub copied-in : (setup : Setup) (poses w64 y : List Float) → length w64 ≡ setup .poses * 24 → length poses ≡ setup .poses * 12
+    → y ≡ copied poses (take (setup .poses * 12) w64) → CopiedIn setup poses w64 (y ++ drop (setup .poses * 12) w64)
+copied-in setup poses w64 y double size e =
+    let front : length (take (setup .poses * 12) w64) ≡ setup .poses * 12 = length-take-le (setup .poses * 12) w64 (omega arith) in
+    let is : y ≡ poses = e ∙ copied-whole poses (take (setup .poses * 12) w64) (front ∙ sym size) in
+    let n : length y ≡ setup .poses * 12 = ap length is ∙ size in
+    let rest : length (drop (setup .poses * 12) w64) ≡ length w64 - setup .poses * 12 = length-drop (setup .poses * 12) w64 in
     record {
-      held = take-at y (drop (job .poses * 12) w64) (job .poses * 12) n ∙ is;
-      long = length-append y (drop (job .poses * 12) w64) ∙ omega arith;
+      held = take-at y (drop (setup .poses * 12) w64) (setup .poses * 12) n ∙ is;
+      long = length-append y (drop (setup .poses * 12) w64) ∙ omega arith;
     }
 
-module _ {job : Job} {poses w64 in64 : List Float} (h : CopiedIn job poses w64 in64) where
-  pub in-lent : {w32 : List Float} → Lent job w32 w64 → Lent job w32 in64
+module _ {setup : Setup} {poses w64 in64 : List Float} (h : CopiedIn setup poses w64 in64) where
+  pub in-lent : {w32 : List Float} → Lent setup w32 w64 → Lent setup w32 in64
   in-lent lent = record { sized = lent .sized; single = lent .single; double = h .long ∙ lent .double }
 
-  module _ {l : Links Edge} {a : Answer} {mid64 : List Float} (s : Started job l in64 a mid64) (l64 : length mid64 ≡ length in64)
+  module _ {l : Links Edge} {a : Answer} {mid64 : List Float} (s : Started setup l in64 a mid64) (l64 : length mid64 ≡ length in64)
       (w32 mid32 last32 last64 out : List Float) (l32 : length mid32 ≡ length w32)
       (z32 : last32 ≡ replicate (length mid32) (num 0)) (z64 : last64 ≡ replicate (length mid64) (num 0)) where
     abbrev came : Whole (List Float)
-    came = whole (partsIn job l) (job .settings) poses
+    came = whole (partsIn setup l) (setup .settings) poses
 
     answered : a ≡ came .answer
-    answered = s .answer ∙ ap (λ (x : List Float). whole (partsIn job l) (job .settings) x .answer) (h .held)
+    answered = s .answer ∙ ap (λ (x : List Float). whole (partsIn setup l) (setup .settings) x .answer) (h .held)
 
-    come-to : heldIn job mid64 ≡ came .held
-    come-to = s .held ∙ ap (λ (x : List Float). whole (partsIn job l) (job .settings) x .held) (h .held)
+    come-to : heldIn setup mid64 ≡ came .held
+    come-to = s .held ∙ ap (λ (x : List Float). whole (partsIn setup l) (setup .settings) x .held) (h .held)
 
-    ends-with : (last : List Float) → last ≡ given out came a → Begun job l poses w32 w64 out a last32 last64 last
+    ends-with : (last : List Float) → last ≡ given out came a → Begun setup l poses w32 w64 out a last32 last64 last
     ends-with last o =
         record {
           answer = answered;
@@ -126,9 +126,9 @@ module _ {job : Job} {poses w64 in64 : List Float} (h : CopiedIn job poses w64 i
           output = o ∙ ap (given out came) answered;
         }
 
-    pub begun-joined : (j : Joined) (last : List Float) → a ≡ answer.Joined j → length out ≡ length (take (job .poses * 12) mid64)
-        → last ≡ copied (take (job .poses * 12) mid64) out → Begun job l poses w32 w64 out a last32 last64 last
-    begun-joined j last q k o = ends-with last (o ∙ copied-whole (take (job .poses * 12) mid64) out k ∙ come-to ∙ ap (given out came) (sym q))
+    pub begun-joined : (j : Joined) (last : List Float) → a ≡ answer.Joined j → length out ≡ length (take (setup .poses * 12) mid64)
+        → last ≡ copied (take (setup .poses * 12) mid64) out → Begun setup l poses w32 w64 out a last32 last64 last
+    begun-joined j last q k o = ends-with last (o ∙ copied-whole (take (setup .poses * 12) mid64) out k ∙ come-to ∙ ap (given out came) (sym q))
 
-    pub begun-refused : (r : Refusal) (last : List Float) → a ≡ answer.Refused r → last ≡ out → Begun job l poses w32 w64 out a last32 last64 last
+    pub begun-refused : (r : Refusal) (last : List Float) → a ≡ answer.Refused r → last ≡ out → Begun setup l poses w32 w64 out a last32 last64 last
     begun-refused r last q o = ends-with last (o ∙ ap (given out came) (sym q))

@@ -12,35 +12,35 @@ use lib.Ieee.{Float}
 use Rattle.graph.specs.Lent.{dofOf}
 use Rattle.graph.proofs.Degrees.{dof-most}
 use Rattle.profile.specs.Layout.{need}
-use Rattle.sparse_pgo.specs.declared.Job.{Job}
+use Rattle.sparse_pgo.specs.declared.Setup.{Setup}
 use Rattle.sparse_pgo.specs.forms.Turns.{Sized}
 
-module _ {job : Job} (s : Sized job) where
-  n-most : job .n ≤ 384
-  n-most = let h : dofOf (job .manifold) * job .free ≤ 384 = mul-le-mul (dof-most (job .manifold)) (s .few) in omega (arith, s .unknowns)
+module _ {setup : Setup} (s : Sized setup) where
+  n-most : setup .n ≤ 384
+  n-most = let h : dofOf (setup .manifold) * setup .free ≤ 384 = mul-le-mul (dof-most (setup .manifold)) (s .few) in omega (arith, s .unknowns)
 
-  square-most : job .n * job .n ≤ 147456
+  square-most : setup .n * setup .n ≤ 147456
   square-most = mul-le-mul n-most n-most
 
-  pub rows-fit : Fits w64 (job .n * job .n)
+  pub rows-fit : Fits w64 (setup .n * setup .n)
   rows-fit = omega (arith, square-most)
 
-  pub gradient-fits : Fits w64 (job .n * job .n + job .n)
+  pub gradient-fits : Fits w64 (setup .n * setup .n + setup .n)
   gradient-fits = omega (arith, square-most, n-most)
 
-  pub step-fits : Fits w64 (job .n * job .n + job .n + job .n)
+  pub step-fits : Fits w64 (setup .n * setup .n + setup .n + setup .n)
   step-fits = omega (arith, square-most, n-most)
 
-  pub gradient-bytes : Fits w64 ((job .n * job .n + job .n) * 4)
+  pub gradient-bytes : Fits w64 ((setup .n * setup .n + setup .n) * 4)
   gradient-bytes = omega (arith, square-most, n-most)
 
-  pub step-bytes : Fits w64 ((job .n * job .n + job .n + job .n) * 4)
+  pub step-bytes : Fits w64 ((setup .n * setup .n + setup .n + setup .n) * 4)
   step-bytes = omega (arith, square-most, n-most)
 
-  pub half-fits : Fits w64 (job .poses * 12)
+  pub half-fits : Fits w64 (setup .poses * 12)
   half-fits = omega (arith, s .poses)
 
-  pub half-bytes : Fits w64 (job .poses * 12 * 8)
+  pub half-bytes : Fits w64 (setup .poses * 12 * 8)
   half-bytes = omega (arith, s .poses)
 
 -- the step stands within the work of a solve

@@ -30,9 +30,9 @@ use Rattle.decisions.specs.declared.End.the-variants as end
 use Rattle.decisions.specs.declared.Next.{Next}
 use Rattle.decisions.specs.declared.Next.the-variants as next
 use Rattle.decisions.proofs.Ways.{turned-stop, turned-go, passed-again}
-use Rattle.sparse_pgo.specs.declared.Job.{Job}
+use Rattle.sparse_pgo.specs.declared.Setup.{Setup}
 use Rattle.sparse_pgo.specs.Parts.{numerics}
-use Rattle.sparse_pgo.specs.forms.Turns.{partsIn, heldIn, Holds, AtTop, Passed, accepts, Attempted, Turned}
+use Rattle.sparse_pgo.specs.forms.Turns.{partsIn, heldIn, Holds, AtTop, PassedTop, accepts, Attempted, Turned}
 use Rattle.sparse_pgo.proofs.Assembling.{Made}
 
 -- ---- the state after a solve: one more accepted exactly where the trial was, and then the system is to be assembled
@@ -93,52 +93,52 @@ module _ (limit : ℕ) (tolerance : Float) (s : State) where
 
 -- ---- the top, at the poses x
 
-module _ (job : Job) (l : Links Edge) (s : State) (x : List Float) where
+module _ (setup : Setup) (l : Links Edge) (s : State) (x : List Float) where
   abbrev due : Assembly
-  due = numerics (partsIn job l) .assemble x
+  due = numerics (partsIn setup l) .assemble x
 
   -- the system stands in the work already
-  pub top-again : {w32 : List Float} → length w32 ≡ need (job .n) → s .fresh ≡ false → AtTop job l s x w32 → Passed job l s x gate.Go w32
-  top-again long f r = record { long = long; answer = sym (passed-again (job .settings .limit) (job .settings .«cost_tolerance») s due f); holds = λ _. r f }
+  pub top-again : {w32 : List Float} → length w32 ≡ need (setup .n) → s .fresh ≡ false → AtTop setup l s x w32 → PassedTop setup l s x gate.Go w32
+  top-again long f r = record { long = long; answer = sym (passed-again (setup .settings .limit) (setup .settings .«cost_tolerance») s due f); holds = λ _. r f }
 
   -- at the limit nothing is assembled
-  pub top-limit : {w32 : List Float} → length w32 ≡ need (job .n) → s .fresh ≡ true → leb (job .settings .limit) (iterations s) ≡ true
-      → Passed job l s x (gate.Stop (end.Stopped why.Budget)) w32
+  pub top-limit : {w32 : List Float} → length w32 ≡ need (setup .n) → s .fresh ≡ true → leb (setup .settings .limit) (iterations s) ≡ true
+      → PassedTop setup l s x (gate.Stop (end.Stopped why.Budget)) w32
   top-limit long f q =
       record {
         long = long;
-        answer = sym (limit-stops (job .settings .limit) (job .settings .«cost_tolerance») s due f q);
+        answer = sym (limit-stops (setup .settings .limit) (setup .settings .«cost_tolerance») s due f q);
         holds = λ e. let z : _≡_ {A = ℕ} 0 1 = cc in absurd (omega arith);
       }
 
   -- after an assembly
-  pub top-made : {w32 : List Float} {a : Assembly} {g : Gate} → s .fresh ≡ true → Made job l x a w32 → g ≡ passed (job .settings .limit) s a → Passed job l s x g w32
+  pub top-made : {w32 : List Float} {a : Assembly} {g : Gate} → s .fresh ≡ true → Made setup l x a w32 → g ≡ passed (setup .settings .limit) s a → PassedTop setup l s x g w32
   unfolding numerics
   top-made {w32} {a} {g} f m q =
       record {
         long = m .long;
-        answer = q ∙ ap (passed (job .settings .limit) s) (m .answer);
-        holds = λ e. m .holds (go-steep (job .settings .limit) (job .settings .«cost_tolerance») s a f (sym q ∙ e));
+        answer = q ∙ ap (passed (setup .settings .limit) s) (m .answer);
+        holds = λ e. m .holds (go-steep (setup .settings .limit) (setup .settings .«cost_tolerance») s a f (sym q ∙ e));
       }
 
 -- ---- a turn
 
-module _ {job : Job} {l : Links Edge} {s : State} (before : List Float) {w32 : List Float} {g : Gate} (p : Passed job l s (heldIn job before) g w32) where
+module _ {setup : Setup} {l : Links Edge} {s : State} (before : List Float) {w32 : List Float} {g : Gate} (p : PassedTop setup l s (heldIn setup before) g w32) where
   abbrev limit : ℕ
-  limit = job .settings .limit
+  limit = setup .settings .limit
 
   abbrev tolerance : Float
-  tolerance = job .settings .«cost_tolerance»
+  tolerance = setup .settings .«cost_tolerance»
 
   abbrev x : List Float
-  x = heldIn job before
+  x = heldIn setup before
 
   -- what the assembly comes to
   abbrev a : Assembly
-  a = numerics (partsIn job l) .assemble x
+  a = numerics (partsIn setup l) .assemble x
 
   -- the top stops the run, and nothing has moved
-  pub turn-stop : {e : End} → g ≡ gate.Stop e → Turned job l s before (next.Over s e) w32 before
+  pub turn-stop : {e : End} → g ≡ gate.Stop e → Turned setup l s before (next.Over s e) w32 before
   unfolding movedOn
   turn-stop {e} k =
       record {
@@ -149,8 +149,8 @@ module _ {job : Job} {l : Links Edge} {s : State} (before : List Float) {w32 : L
       }
 
   -- a solve follows the top
-  pub turn-go : s .accepted < 4294967295 → g ≡ gate.Go → {o : Outcome} {w32' after : List Float} {r : Next} → Attempted job l s before o w32' after
-      → r ≡ solved s (job .settings .limit) (job .settings .«cost_tolerance») o → Turned job l s before r w32' after
+  pub turn-go : s .accepted < 4294967295 → g ≡ gate.Go → {o : Outcome} {w32' after : List Float} {r : Next} → Attempted setup l s before o w32' after
+      → r ≡ solved s (setup .settings .limit) (setup .settings .«cost_tolerance») o → Turned setup l s before r w32' after
   unfolding movedOn
   turn-go few k {o} {w32'} {after} {r} h e =
       record {
@@ -161,10 +161,10 @@ module _ {job : Job} {l : Links Edge} {s : State} (before : List Float) {w32 : L
             ∙ sym (turned-go limit tolerance s a _ (sym (p .answer) ∙ k));
         held =
             h .held
-            ∙ ap (λ (z : Bool). if-then z (numerics (partsIn job l) .moved x (s .damping)) x) (sym (accepts-more limit tolerance s o few))
-            ∙ ap (λ (z : Next). if-then (ltb (s .accepted) (stateOf z .accepted)) (numerics (partsIn job l) .moved x (s .damping)) x) (sym e);
+            ∙ ap (λ (z : Bool). if-then z (numerics (partsIn setup l) .moved x (s .damping)) x) (sym (accepts-more limit tolerance s o few))
+            ∙ ap (λ (z : Next). if-then (ltb (s .accepted) (stateOf z .accepted)) (numerics (partsIn setup l) .moved x (s .damping)) x) (sym e);
         holds = λ t q f.
             let n : accepts o ≡ false = same-system limit tolerance s o t (sym e ∙ q) f in
-            let y : x ≡ heldIn job after = left _ n refl ∙ sym (h .held) in
-            subst (λ (z : List Float). Holds job l z w32') y (h .holds);
+            let y : x ≡ heldIn setup after = left _ n refl ∙ sym (h .held) in
+            subst (λ (z : List Float). Holds setup l z w32') y (h .holds);
       }

@@ -43,7 +43,7 @@ pub record Parts (X S D : Type 0) : Type 0 where
   -- whether every retraction went well, and the poses then
   pub trial : X → D → Bool × X
 
--- the rows of the refusals that a run can meet
+-- the row of a first cost that can't be had; that of an assembly stands with it (`assemblyRow`)
 abbrev pub costRow : Failure → ℕ
 costRow Numerical = 20
 

@@ -13,7 +13,7 @@ use Rattle.roots.specs.Samples as roots
 use Rattle.rotations.specs.declared.Transform.{Transform}
 use Rattle.rotations.specs.Rotation.{dot, cross, plus, times, wide, over}
 use Rattle.exp_log.specs.ExpLog.{series, bent, upright, halved, arcSeries, angleOf, unbend, logWide, narrowedTwist, logOf}
-use Rattle.exp_log.specs.Samples as rotations
+use Rattle.exp_log.specs.Samples as exp-log
 use Rattle.decisions.specs.Damping.{lambdaMax, lambdaMin, increased, decreased}
 use Rattle.decisions.specs.Run.{oneMore, failing, solved, heard, assembled, passed, thenSolve, afterTurn}
 use Rattle.events.specs.Driven.{settled, afterEvent, driven}
@@ -23,14 +23,14 @@ pub data Case : Type 0 where
   of-damping : events.Case → Case
   of-narrowing : ℕ → Case
   of-roots : roots.Case → Case
-  of-rotations : rotations.Case → Case
+  of-exp-log : exp-log.Case → Case
 
 -- bits of numbers, or a count
 unfoldable pub answer : Case → List ℕ
 answer (of-damping c) = events.answer c ∷ []
 answer (of-narrowing b) = narrowedBits b ∷ []
 answer (of-roots c) = roots.answer c ∷ []
-answer (of-rotations c) = rotations.answer c
+answer (of-exp-log c) = exp-log.answer c
 
 -- a case and what it must give
 pub record Sample : Type 0 where
@@ -64,11 +64,11 @@ starred =
     -- 2⁻¹⁵⁰ narrows to 0
     ∷ record { case = of-narrowing 0x3690_0000_0000_0000; gives = 0 ∷ [] }
     -- log of the identity is zero
-    ∷ record { case = of-rotations (rotations.log identity); gives = 0 ∷ 0 ∷ 0 ∷ 0 ∷ 0 ∷ 0 ∷ [] }
+    ∷ record { case = of-exp-log (exp-log.log identity); gives = 0 ∷ 0 ∷ 0 ∷ 0 ∷ 0 ∷ 0 ∷ [] }
     ∷ []
 
 pub starred-hold : map (λ (s : Sample). answer (s .case)) starred ≡ map (λ (s : Sample). s .gives) starred
-unfolding starred answer narrowedBits roots.answer rotations.answer events.answer ratio ratio32 if-then add sub mul div neg lt le ofBits toBits rounded rooted
+unfolding starred answer narrowedBits roots.answer exp-log.answer events.answer ratio ratio32 if-then add sub mul div neg lt le ofBits toBits rounded rooted
     increased decreased driven settled afterEvent afterTurn thenSolve passed assembled solved heard failing oneMore
     dot cross plus times wide over series bent upright halved arcSeries angleOf unbend logWide narrowedTwist logOf
 starred-hold = refl

@@ -1,5 +1,5 @@
-// The run over lent work, and its two entry points (sparse_pose_graph_optimize). work32 is the work of a solve; work64 holds the accepted poses, then the
-// trial's. Nothing is allocated.
+// The run over lent work (sparse_pose_graph_optimize), and its entry points for each manifold. work32 is the work of a solve; work64 holds the accepted
+// poses, then the trial's. Nothing is allocated.
 ghost use mathlib.Core.Path.{_≡_};
 ghost use Prim.Native.Nat.{_*_, _<_};
 ghost use lib.ListN.{length};
@@ -9,7 +9,7 @@ ghost use Rattle.profile.specs.Layout.{need};
 ghost use Rattle.sparse_pgo.specs.Parts.{hasConverged, answerAfter};
 ghost use Rattle.sparse_pgo.specs.Optimize.{optimizedOn};
 ghost use Rattle.sparse_pgo.specs.forms.Turns.{linksIn, heldIn, Sized, Lent, Holds, AtTop, assemblyIn};
-ghost use Rattle.sparse_pgo.specs.forms.Turns.{Passed, Attempted, Turned, Startable, Started, Begun};
+ghost use Rattle.sparse_pgo.specs.forms.Turns.{PassedTop, Attempted, Turned, Startable, Started, Begun};
 use assembly::Assembled;
 use checks::Checked;
 use costs::Cost;
@@ -45,7 +45,7 @@ pub enum Answer {
 }
 
 // What the checks found and the caller set. Gravity is of unit length here; n is DOF times the free poses.
-pub struct Job {
+pub struct Setup {
     pub manifold: Manifold,
     pub n: usize,
     pub poses: usize,
@@ -56,9 +56,9 @@ pub struct Job {
 // ---- a turn
 
 // What an assembly comes to: a gradient whose norm is below the tolerance has converged.
-fn assembly_of(job: Job, made: Assembled, w32: &[f32]) -> Assembly
-    requires { ⌜ Sized job × (length (now w32) ≡ need (job .n)) ⌝ }
-    ensures { λ r. ⌜ r ≡ assemblyIn job made (was w32) ⌝ }
+fn assembly_of(setup: Setup, made: Assembled, w32: &[f32]) -> Assembly
+    requires { ⌜ Sized setup × (length (now w32) ≡ need (setup .n)) ⌝ }
+    ensures { λ r. ⌜ r ≡ assemblyIn setup made (was w32) ⌝ }
 {
     match made {
         Assembled::Bad { edge, why: _ } => Assembly::Refused(Refusal {
@@ -67,11 +67,11 @@ fn assembly_of(job: Job, made: Assembled, w32: &[f32]) -> Assembly
         }),
         Assembled::Short => Assembly::Flat,
         Assembled::Done => {
-            let n = job.n;
+            let n = setup.n;
             let from = n * n + n;
             let to = from + n;
             let norm = trials::l2_norm(&w32[from..to]);
-            let set = job.settings;
+            let set = setup.settings;
             if norm < numbers::widen(set.gradient_tolerance) {
                 Assembly::Flat
             } else {
@@ -83,7 +83,7 @@ fn assembly_of(job: Job, made: Assembled, w32: &[f32]) -> Assembly
 
 // The top of a turn: the system of the poses, where it is to be assembled and the limit is not reached; and whether a solve follows.
 fn pass_top(
-    job: Job,
+    setup: Setup,
     ends: &[u32],
     edges: &[f32],
     blocks: &[u32; 256],
@@ -91,19 +91,19 @@ fn pass_top(
     poses: &[f64],
     w32: &mut [f32],
 ) -> Gate
-    requires { ⌜ Sized job × (length (now w32) ≡ need (job .n)) ⌝ }
-    requires { ⌜ AtTop job (linksIn job (now ends) (now edges) (now blocks)) s (now poses) (now w32) ⌝ }
-    ensures { λ r. ⌜ Passed job (linksIn job (was ends) (was edges) (was blocks)) s (was poses) r (became w32) ⌝ }
+    requires { ⌜ Sized setup × (length (now w32) ≡ need (setup .n)) ⌝ }
+    requires { ⌜ AtTop setup (linksIn setup (now ends) (now edges) (now blocks)) s (now poses) (now w32) ⌝ }
+    ensures { λ r. ⌜ PassedTop setup (linksIn setup (was ends) (was edges) (was blocks)) s (was poses) r (became w32) ⌝ }
 {
     let fresh = s.fresh;
     if !fresh {
         return Gate::Go;
     }
-    let set = job.settings;
+    let set = setup.settings;
     if decisions::at_limit(s, set.limit) {
         return Gate::Stop(End::Stopped(Why::Budget));
     }
-    let m = job.manifold;
+    let m = setup.manifold;
     let made = assembly::build_normal_system_with_mapping(
         w32,
         m,
@@ -111,15 +111,15 @@ fn pass_top(
         ends,
         edges,
         blocks,
-        job.free,
+        setup.free,
     );
-    let a = assembly_of(job, made, w32);
+    let a = assembly_of(setup, made, w32);
     decisions::pass_top(s, set.limit, a)
 }
 
 // A solve of the system in w32 at the damping, and the trial of its step: the poses of an accepted one become the accepted poses.
 fn attempt(
-    job: Job,
+    setup: Setup,
     ends: &[u32],
     edges: &[f32],
     blocks: &[u32; 256],
@@ -127,21 +127,21 @@ fn attempt(
     w32: &mut [f32],
     w64: &mut [f64],
 ) -> Outcome
-    requires { ⌜ Lent job (now w32) (now w64) ⌝ }
-    requires { ⌜ Holds job (linksIn job (now ends) (now edges) (now blocks)) (heldIn job (now w64)) (now w32) ⌝ }
-    ensures { λ r. ⌜ Attempted job (linksIn job (was ends) (was edges) (was blocks)) s (was w64) r (became w32) (became w64) ⌝ }
+    requires { ⌜ Lent setup (now w32) (now w64) ⌝ }
+    requires { ⌜ Holds setup (linksIn setup (now ends) (now edges) (now blocks)) (heldIn setup (now w64)) (now w32) ⌝ }
+    ensures { λ r. ⌜ Attempted setup (linksIn setup (was ends) (was edges) (was blocks)) s (was w64) r (became w32) (became w64) ⌝ }
 {
-    let n = job.n;
+    let n = setup.n;
     let Solved::Step = solve::solve_damped(w32, n, s.damping) else {
         return Outcome::Failed;
     };
     let at = n * n + n + n;
-    let m = job.manifold;
-    trials::try_step(m, ends, edges, blocks, job.free, s.cost, &w32[at..], w64)
+    let m = setup.manifold;
+    trials::try_step(m, ends, edges, blocks, setup.free, s.cost, &w32[at..], w64)
 }
 
 fn one_turn(
-    job: Job,
+    setup: Setup,
     ends: &[u32],
     edges: &[f32],
     blocks: &[u32; 256],
@@ -149,16 +149,16 @@ fn one_turn(
     w32: &mut [f32],
     w64: &mut [f64],
 ) -> Next
-    requires { ⌜ Lent job (now w32) (now w64) × (s .accepted < 4294967295) ⌝ }
-    requires { ⌜ AtTop job (linksIn job (now ends) (now edges) (now blocks)) s (heldIn job (now w64)) (now w32) ⌝ }
-    ensures { λ r. ⌜ Turned job (linksIn job (was ends) (was edges) (was blocks)) s (was w64) r (became w32) (became w64) ⌝ }
+    requires { ⌜ Lent setup (now w32) (now w64) × (s .accepted < 4294967295) ⌝ }
+    requires { ⌜ AtTop setup (linksIn setup (now ends) (now edges) (now blocks)) s (heldIn setup (now w64)) (now w32) ⌝ }
+    ensures { λ r. ⌜ Turned setup (linksIn setup (was ends) (was edges) (was blocks)) s (was w64) r (became w32) (became w64) ⌝ }
 {
-    let half = job.poses * 12;
-    match pass_top(job, ends, edges, blocks, s, &w64[..half], w32) {
+    let half = setup.poses * 12;
+    match pass_top(setup, ends, edges, blocks, s, &w64[..half], w32) {
         Gate::Stop(e) => Next::Over(s, e),
         Gate::Go => {
-            let o = attempt(job, ends, edges, blocks, s, w32, w64);
-            let set = job.settings;
+            let o = attempt(setup, ends, edges, blocks, s, w32, w64);
+            let set = setup.settings;
             decisions::after_solve(s, set.limit, set.cost_tolerance, o)
         }
     }
@@ -202,23 +202,23 @@ pub fn answer_of(first: f32, s: State, e: End, iterations: u32) -> Answer
 
 // The first cost, then the turns.
 fn started(
-    job: Job,
+    setup: Setup,
     ends: &[u32],
     edges: &[f32],
     blocks: &[u32; 256],
     w32: &mut [f32],
     w64: &mut [f64],
 ) -> Answer
-    requires { ⌜ Lent job (now w32) (now w64) × Startable job ⌝ }
-    ensures { λ r. ⌜ Started job (linksIn job (was ends) (was edges) (was blocks)) (was w64) r (became w64) ⌝ }
+    requires { ⌜ Lent setup (now w32) (now w64) × Startable setup ⌝ }
+    ensures { λ r. ⌜ Started setup (linksIn setup (was ends) (was edges) (was blocks)) (was w64) r (became w64) ⌝ }
 {
-    let half = job.poses * 12;
+    let half = setup.poses * 12;
     let found = costs::active_total_squared_residual_cost(
         &w64[..half],
         ends,
         edges,
         blocks,
-        job.free,
+        setup.free,
     );
     match found {
         Cost::Bad { edge, why: _ } => Answer::Refused(Refusal {
@@ -226,10 +226,10 @@ fn started(
             place: edge,
         }),
         Cost::Of(first) => {
-            let set = job.settings;
+            let set = setup.settings;
             let mut s = decisions::begin(first, set.damping);
             loop {
-                match one_turn(job, ends, edges, blocks, s, w32, w64) {
+                match one_turn(setup, ends, edges, blocks, s, w32, w64) {
                     Next::On(t) => {
                         s = t;
                     }
@@ -244,7 +244,7 @@ fn started(
 
 // Poses in, the run, poses out, the work cleared.
 fn begun(
-    job: Job,
+    setup: Setup,
     poses: &[f64],
     ends: &[u32],
     edges: &[f32],
@@ -253,14 +253,14 @@ fn begun(
     w64: &mut [f64],
     out: &mut [f64],
 ) -> Answer
-    requires { ⌜ Lent job (now w32) (now w64) × Startable job ⌝ }
-    requires { ⌜ (length (now poses) ≡ job .poses * 12) × (length (now out) ≡ length (now poses)) ⌝ }
-    ensures { λ r. ⌜ Begun job (linksIn job (was ends) (was edges) (was blocks)) (was poses) (was w32) (was w64) (was out) r (became w32) (became w64)
+    requires { ⌜ Lent setup (now w32) (now w64) × Startable setup ⌝ }
+    requires { ⌜ (length (now poses) ≡ setup .poses * 12) × (length (now out) ≡ length (now poses)) ⌝ }
+    ensures { λ r. ⌜ Begun setup (linksIn setup (was ends) (was edges) (was blocks)) (was poses) (was w32) (was w64) (was out) r (became w32) (became w64)
         (became out) ⌝ }
 {
-    let half = job.poses * 12;
+    let half = setup.poses * 12;
     slices::copy64(poses, &mut w64[..half]);
-    let a = started(job, ends, edges, blocks, w32, w64);
+    let a = started(setup, ends, edges, blocks, w32, w64);
     if let Answer::Joined(_) = a {
         slices::copy64(&w64[..half], out);
     }
@@ -306,7 +306,7 @@ pub fn sparse_pose_graph_optimize(
             let n = graph::dof(manifold) * (c.free as usize);
             let n32 = n * (n + 3);
             let n64 = 24 * c.poses;
-            let job = Job {
+            let setup = Setup {
                 manifold: retraction::unit_manifold(manifold),
                 n,
                 poses: c.poses,
@@ -314,7 +314,7 @@ pub fn sparse_pose_graph_optimize(
                 settings,
             };
             begun(
-                job,
+                setup,
                 poses,
                 ends,
                 edges,

@@ -1,6 +1,6 @@
 use Rattle.checks.specs.declared.Checked.{Checked}
 use Rattle.numbers.specs.declared.Verdict.{Verdict}
-use Rattle.checks.specs.Table.{settle}
+use Rattle.checks.specs.Table.{checkedBy}
 use mathlib.Core.Path.{ap, ap₂, sym, _∙_}
 use Rattle.checks.specs.declared.Checks.{Checks}
 use Rattle.checks.specs.Input.{lent}
@@ -38,7 +38,7 @@ returns-2 c =
     let a = p .before .before .before .before .before .args in
     let i = lent (a .manifold) (a .poses .now) (a .ends .now) (a .edges .now) (a .fixed .now) (a .settings) (a .room) in
     let e = p .validate-pose-graph .ensures ∙ settings-alone i in
-    ap₂ (λ (x : Checked) (y : Checks). record { answer = x; blocks = y .blocks }) (c .settled .ensures ∙ ap (λ (v : Verdict). settle v n) (c .before .validate-settings .ensures)) e
+    ap₂ (λ (x : Checked) (y : Checks). record { answer = x; blocks = y .blocks }) (c .settled .ensures ∙ ap (λ (v : Verdict). checkedBy v n) (c .before .validate-settings .ensures)) e
     ∙ checked-fit i n (ap (λ (x : Checks). x .answer) (sym e) ∙ c .before .before .before .before .answer .given .1)
 
 pub validate-optimizer-inputs-spec : {M : Type 1} → statement M

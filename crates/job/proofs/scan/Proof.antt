@@ -14,11 +14,11 @@ Inv-loop room s c₀ c = Seen room s c
 abbrev μ-loop : tie.MeasureT-loop
 μ-loop room s c₀ c = length s - c .at
 
-start-requires : tie.Need-start-requires Inv-loop μ-loop
-start-requires c κs = search needs
+first-cursor-requires : tie.Need-first-cursor-requires Inv-loop μ-loop
+first-cursor-requires c κs = search needs
 
 loop-holds : tie.Need-loop-holds Inv-loop μ-loop
-loop-holds c = let a = c .before .before .args in subst (Seen (a .room) (now (a .s))) (sym (c .start .ensures)) (seen-start (a .room) (now (a .s)))
+loop-holds c = let a = c .before .before .args in subst (Seen (a .room) (now (a .s))) (sym (c .first-cursor .ensures)) (seen-start (a .room) (now (a .s)))
 
 step-at-requires : tie.Need-step-at-requires Inv-loop μ-loop
 step-at-requires c κs = tt
@@ -50,7 +50,7 @@ scan-spec =
     (tie.spec
     Inv-loop
     μ-loop
-    start-requires
+    first-cursor-requires
     loop-holds
     step-at-requires
     enum-known-d

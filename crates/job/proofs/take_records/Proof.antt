@@ -16,14 +16,14 @@ Inv-loop s room poses₀ ends₀ edges₀ fixed₀ c₀ poses ends edges fixed c
 abbrev μ-loop : tie.MeasureT-loop
 μ-loop s room poses₀ ends₀ edges₀ fixed₀ c₀ poses ends edges fixed c = length s - c .at
 
-start-requires : tie.Need-start-requires Inv-loop μ-loop
-start-requires c κs = search needs
+first-cursor-requires : tie.Need-first-cursor-requires Inv-loop μ-loop
+first-cursor-requires c κs = search needs
 
 loop-holds : tie.Need-loop-holds Inv-loop μ-loop
 loop-holds c =
     let z = c .before .before .before .before .before .before in
     let l = space (now (z .args .poses)) (now (z .args .ends)) (now (z .args .edges)) (now (z .args .fixed)) in
-    subst (λ (x : Cursor). Held (z .args .room) (now (z .args .s)) l x l) (sym (c .start .ensures))
+    subst (λ (x : Cursor). Held (z .args .room) (now (z .args .s)) l x l) (sym (c .first-cursor .ensures))
     (held-start (z .args .room) (now (z .args .s)) l (z .pre .0))
 
 step-at-requires : tie.Need-step-at-requires Inv-loop μ-loop
@@ -93,7 +93,7 @@ take-records-spec =
     (tie.spec
     Inv-loop
     μ-loop
-    start-requires
+    first-cursor-requires
     loop-holds
     step-at-requires
     enum-known-d

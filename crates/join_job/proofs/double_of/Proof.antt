@@ -1,6 +1,7 @@
 use mathlib.Core.Path.{_∙_}
 use lib.Ieee.{binary64}
-use Rattle.job_terms.proofs.Patterns.{nan-of, not-nan}
+use Rattle.numbers.proofs.Read.{bits-no-nan}
+use Rattle.job_terms.proofs.Patterns.{nan-of}
 use Rattle.join_job.proofs.Patterns.{nan64}
 use borrow.Author.Needs.{needs}
 use Rattle.join_job.proofs.double_of.Statement.{statement}
@@ -10,7 +11,7 @@ returns : tie.Need-returns
 returns c = nan64 ∙ nan-of binary64 (c .before .args .bits) (c .if1 .taken)
 
 float-from-bits-result : tie.Need-float-from-bits-result
-float-from-bits-result c = not-nan binary64 (c .before .args .bits) (c .if1 .left)
+float-from-bits-result c = bits-no-nan binary64 (c .before .args .bits) (c .if1 .left)
 
 returns-2 : tie.Need-returns-2
 returns-2 c = search needs

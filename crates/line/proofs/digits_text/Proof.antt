@@ -1,4 +1,4 @@
--- Each digit, by what `digit` ensures. Assumes nothing.
+-- Each digit, by what `digit_byte` ensures. Assumes nothing.
 use Rattle.line.proofs.FloatLaws.{by-digits}
 use borrow.Author.Needs.{needs}
 use Rattle.line.proofs.digits_text.Statement.{statement}

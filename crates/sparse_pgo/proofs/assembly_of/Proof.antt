@@ -47,10 +47,10 @@ returns-2 : tie.Need-returns-2
 returns-2 c = assembly-short _ _ (c .enum-told .given .1)
 
 returns-3 : tie.Need-returns-3
-returns-3 c = assembly-flat (c .before .before .before .before .before .before .before .before .args .job) (now (c .before .before .before .before .before .before .before .before .args .w32)) (c .before .before .before .before .before .before .before .before .pre .1) (c .before .before .before .before .before .enum-told2 .given .1) (c .before .before .before .l2-norm .ensures) (c .before .widen .ensures) (c .if1 .taken)
+returns-3 c = assembly-flat (c .before .before .before .before .before .before .before .before .args .setup) (now (c .before .before .before .before .before .before .before .before .args .w32)) (c .before .before .before .before .before .before .before .before .pre .1) (c .before .before .before .before .before .enum-told2 .given .1) (c .before .before .before .l2-norm .ensures) (c .before .widen .ensures) (c .if1 .taken)
 
 returns-4 : tie.Need-returns-4
-returns-4 c = assembly-steep (c .before .before .before .before .before .before .before .before .args .job) (now (c .before .before .before .before .before .before .before .before .args .w32)) (c .before .before .before .before .before .before .before .before .pre .1) (c .before .before .before .before .before .enum-told2 .given .1) (c .before .before .before .l2-norm .ensures) (c .before .widen .ensures) (c .if1 .left)
+returns-4 c = assembly-steep (c .before .before .before .before .before .before .before .before .args .setup) (now (c .before .before .before .before .before .before .before .before .args .w32)) (c .before .before .before .before .before .before .before .before .pre .1) (c .before .before .before .before .before .enum-told2 .given .1) (c .before .before .before .l2-norm .ensures) (c .before .widen .ensures) (c .if1 .left)
 
 pub assembly-of-spec : {M : Type 1} → statement M
 assembly-of-spec =

@@ -13,12 +13,12 @@ use Rattle.sparse_pgo.proofs.begun.Tie as tie
 
 -- the poses stand in the first half of the work
 copied : (c : tie.After-copy64)
-    → let a = c .before .before .before .before .before .before .before .before .before .args in CopiedIn (a .job) (now (a .poses)) (now (a .w64)) (c .copy64 .last .1 .0 ++ drop (a .job .poses * 12) (now (a .w64)))
+    → let a = c .before .before .before .before .before .before .before .before .before .args in CopiedIn (a .setup) (now (a .poses)) (now (a .w64)) (c .copy64 .last .1 .0 ++ drop (a .setup .poses * 12) (now (a .w64)))
 copied c = let p = c .before .before .before .before .before .before .before .before .before .pre in copied-in _ _ _ _ (p .0 .0 .double) (p .1 .0) (c .copy64 .ensures)
 
 -- and what is as long as they are has room for two of each
 long-still : {n : ℕ} (c : tie.After-copy64)
-    → let a = c .before .before .before .before .before .before .before .before .before .args in n ≡ length (c .copy64 .last .1 .0 ++ drop (a .job .poses * 12) (now (a .w64))) → n ≡ a .job .poses * 24
+    → let a = c .before .before .before .before .before .before .before .before .before .args in n ≡ length (c .copy64 .last .1 .0 ++ drop (a .setup .poses * 12) (now (a .w64))) → n ≡ a .setup .poses * 24
 long-still c e = e ∙ copied c .long ∙ c .before .before .before .before .before .before .before .before .before .pre .0 .0 .double
 
 mul-half : tie.Need-mul-half
@@ -75,9 +75,9 @@ returns c =
     let h = copied (c .before .before .before .before .before .before .before .before .before .before .before .before .before .before .before .before .before .before) in
     let p = c .before .before .before .before .before .before .before .before .before .before .before .before .before .before .before .before .before .before .before .before .before .before .before .before .before .before .before .pre in
     let a = c .before .before .before .before .before .before .before .before .before .before .before .before .before .before .before .before .before .before .before .before .before .before .before .before .before .before .before .args in
-    let l = linksIn (a .job) (now (a .ends)) (now (a .edges)) (now (a .blocks)) in
+    let l = linksIn (a .setup) (now (a .ends)) (now (a .edges)) (now (a .blocks)) in
     let k = p .1 .1 ∙ p .1 .0 ∙ sym (length-take-le _ _ (half-within _ _ (long-still (c .before .before .before .before .before .before .before .before .before .before .before .before .before .before .before .before .before .before) (s .kept .1 .1 .1 .1 .1 .0)))) in
-    ⊎-elim {C = Begun (a .job) l (now (a .poses)) (now (a .w32)) (now (a .w64)) (now (a .out)) _ _ _ _}
+    ⊎-elim {C = Begun (a .setup) l (now (a .poses)) (now (a .w32)) (now (a .w64)) (now (a .out)) _ _ _ _}
     (λ w. begun-joined h {l = l} (s .ensures) (s .kept .1 .1 .1 .1 .1 .0) _ (s .last .1 .1 .1 .1 .0) _ _ _ l32 z32 z64 _ _ (w .1 .given .1) k (w .7 ∙ w .4 .ensures))
     (λ w. begun-refused h {l = l} (s .ensures) (s .kept .1 .1 .1 .1 .1 .0) _ (s .last .1 .1 .1 .1 .0) _ _ _ l32 z32 z64 _ _ (w .1 .given .1) (w .2))
     (c .before .before .before .before .before .before .before .before .match .came)

@@ -49,9 +49,9 @@ same-length-3 c = c .before .before .before .before .before .before .attempt .ke
 same-length-4 : tie.Need-same-length-4
 same-length-4 c = c .before .before .before .before .before .before .attempt .kept .1 .1 .1 .1 .1 .1 .0
 
--- what follows the solve is asked with the limit and the tolerance of the job
+-- what follows the solve is asked with the limit and the tolerance of the setup
 decided : (c : tie.After-after-solve)
-    → let a = c .before .before .before .before .before .before .before .before .before .before .before .before .before .before .before .before .before .before .before .before .before .args in c .after-solve .result ≡ solved (a .s) (a .job .settings .limit) (a .job .settings .«cost_tolerance») (c .before .before .before .before .before .before .attempt .result)
+    → let a = c .before .before .before .before .before .before .before .before .before .before .before .before .before .before .before .before .before .before .before .before .before .args in c .after-solve .result ≡ solved (a .s) (a .setup .settings .limit) (a .setup .settings .«cost_tolerance») (c .before .before .before .before .before .before .attempt .result)
 decided c = c .after-solve .ensures
 
 returns-2 : tie.Need-returns-2

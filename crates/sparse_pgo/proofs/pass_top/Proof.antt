@@ -33,10 +33,10 @@ returns-3 : tie.Need-returns-3
 returns-3 c =
     let a = c .before .before .before .before .before .before .before .before .before .before .before .before .before .before .before .args in
     let b = c .before .before .before .before .before .build-normal-system-with-mapping in
-    let l = linksIn (a .job) (now (a .ends)) (now (a .edges)) (now (a .blocks)) in
-    let fits = lent-fits (a .job .manifold) (now (a .ends)) (now (a .edges)) (now (a .blocks)) (a .job .free) in
+    let l = linksIn (a .setup) (now (a .ends)) (now (a .edges)) (now (a .blocks)) in
+    let fits = lent-fits (a .setup .manifold) (now (a .ends)) (now (a .edges)) (now (a .blocks)) (a .setup .free) in
     let m = assembled-made l (now (a .poses)) (now (a .w32)) (c .before .before .before .before .before .before .before .before .before .before .before .before .before .before .before .pre .0) (b .ensures) (b .kept .0) (c .before .assembly-of .ensures) fits in
-    top-made (a .job) l (a .s) (now (a .poses)) (not-false _ (c .before .before .before .before .before .before .before .before .before .before .if1 .left)) m (c .pass-top .ensures)
+    top-made (a .setup) l (a .s) (now (a .poses)) (not-false _ (c .before .before .before .before .before .before .before .before .before .before .if1 .left)) m (c .pass-top .ensures)
 
 pub pass-top-spec : {M : Type 1} → statement M
 pass-top-spec =

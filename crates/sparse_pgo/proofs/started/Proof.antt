@@ -14,13 +14,13 @@ use Rattle.sparse_pgo.proofs.started.Statement.{statement}
 use Rattle.sparse_pgo.proofs.started.Tie as tie
 
 abbrev Inv-loop : tie.InvT-loop
-Inv-loop job ends edges blocks w32₀ w64₀ half first s₀ w32 w64 s = Turning job (linksIn job ends edges blocks) first w64₀ w32 w64 s
+Inv-loop setup ends edges blocks w32₀ w64₀ half first s₀ w32 w64 s = Turning setup (linksIn setup ends edges blocks) first w64₀ w32 w64 s
 
 abbrev μ-loop : tie.MeasureT-loop
-μ-loop job ends edges blocks w32₀ w64₀ half first s₀ w32 w64 s = turnsLeft (job .settings .limit) s
+μ-loop setup ends edges blocks w32₀ w64₀ half first s₀ w32 w64 s = turnsLeft (setup .settings .limit) s
 
 -- the first damping is an f32
-is-f32 : (c : tie.Start Inv-loop μ-loop) → T (fits binary32 (c .args .job .settings .damping))
+is-f32 : (c : tie.Start Inv-loop μ-loop) → T (fits binary32 (c .args .setup .settings .damping))
 is-f32 c = search needs
 
 mul-half : tie.Need-mul-half Inv-loop μ-loop
