@@ -8,7 +8,7 @@ use lib.Dec.{eqb, ltb}
 use lib.Ieee.{lt}
 use lib.Ieee.Scale.{finite}
 use borrow.Author.Tests.{not-false, eqb-true, eqb-false, ltb-false, lt-ltb, le-ltb, leb-false}
-use Rattle.numbers.specs.Notation.{num, ratio32, if-then}
+use Rattle.numbers.specs.Notation.{num, if-then}
 use Rattle.numbers.specs.Refusals.{verdict}
 use Rattle.numbers.specs.declared.Verdict.the-variants.{Fine}
 use Rattle.numbers.proofs.Choices.{taken, left}
@@ -25,6 +25,7 @@ use Rattle.graph.specs.Lent.{dofOf, none, slotIn, lentLinks, endA, endB}
 use Rattle.checks.specs.Input.{Input, graphOf}
 use Rattle.checks.specs.Islands.{Reaches, isLoose}
 use Rattle.checks.specs.Table.{poseFaults, edgeFaults, islandFaults, graphRows, rows, countsOf, blockNumber, blocksOf, graphChecks, checks}
+use Rattle.decisions.specs.Damping.{lambdaMax}
 use Rattle.rows.specs.Tests.{badGravity, unfit, tooMany, shortWork, badTolerance, badDamping, fixedFaults, settingRows}
 use Rattle.numbers.proofs.Reading.{ask-fine, row-fault, row-at, read-before}
 use Rattle.numbers.proofs.Tests.{neither-first, neither-second}
@@ -67,7 +68,7 @@ pub record PassedSettings (s : Settings) : Type 0 where
   pub gradient-not-below : lt (s .«gradient_tolerance») (num 0) ≡ false
   pub damping-finite : finite (s .damping) ≡ true
   pub damping-above : lt (num 0) (s .damping) ≡ true
-  pub damping-most : lt (ratio32 10000000000 1) (s .damping) ≡ false
+  pub damping-most : lt lambdaMax (s .damping) ≡ false
 
 pub record Passed (i : Input) : Type 0 where
   pub graph : PassedGraph i

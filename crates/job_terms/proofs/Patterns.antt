@@ -1,11 +1,10 @@
 -- Which patterns are a NaN's, and the settings of single patterns, computed. Assumes nothing.
-use Prim.Native.Nat.{ℕ, _*_, _%_, _<_, _≤_}
+use Prim.Native.Nat.{ℕ, _*_, _%_, _<_}
 use native.Mathlib.Omega.{arith}
 use mathlib.Core.Path.{_≡_, refl, sym, _∙_}
-use mathlib.Core.Bool.{true, not}
-use borrow.Author.Tests.{lt-ltb, le-ltb}
-use lib.Dec.{T}
-use lib.Ieee.{Float, nan, inf, fin, Format, hid, ones, top, isNan, ofBits, ofFields, odd, div, binary32, nanBits, round}
+use mathlib.Core.Bool.{true}
+use borrow.Author.Tests.{lt-ltb}
+use lib.Ieee.{Float, nan, inf, fin, Format, hid, ones, top, isNan, ofBits, ofFields, odd, div, binary32, round}
 use lib.Ieee.Bits.{nanBits-is, nanBits-above}
 use Rattle.numbers.specs.Notation.{num, ratio}
 use Rattle.job_terms.specs.Terms.{settingsAs}

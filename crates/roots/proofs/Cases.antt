@@ -2,8 +2,8 @@
 use mathlib.Core.Path.{_≡_, refl, sym, ap, _∙_, subst}
 use mathlib.Core.Logic.{_⊎_, inl, inr}
 use Prim.Native.Nat.{ℕ, zero, suc, _+_, _-_, _*_, _/_, _%_, _^_, _≤_, _<_}
-use native.Mathlib.Nat.{le-trans, le-of-eq, le-of-lt, le-antisymm, lt-of-lt-of-le, le-add-right, eq-or-lt-of-le, eq-zero-or-pos, mul-assoc, mul-pos}
-use native.Mathlib.Nat.{le-of-mul-le-mul-right, zero-mod, mod-self, mod-eq-of-lt, mod-eq-sub-mod, div-add-mod', le-div-iff-mul-le}
+use native.Mathlib.Nat.{le-of-lt, le-antisymm, lt-of-lt-of-le, le-add-right, eq-or-lt-of-le, eq-zero-or-pos, mul-assoc, mul-pos}
+use native.Mathlib.Nat.{zero-mod, mod-self, mod-eq-of-lt, mod-eq-sub-mod, le-div-iff-mul-le}
 use native.Mathlib.Omega.{arith}
 use mathlib.Core.Bool.{Bool, true, false, not, _&&_, true≢false}
 use lib.Dec.{T, leb, ltb, le→leb}

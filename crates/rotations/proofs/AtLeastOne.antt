@@ -1,12 +1,12 @@
 -- The p of the quaternion rule is at least 1 for finite entries (document 01, "Rotation arithmetic"), whatever rounding does, overflow to an infinity included.
 -- In every branch it is 1 plus two numbers that are not below 0. Assumes nothing.
 use mathlib.Core.Path.{_≡_, refl, sym, subst}
-use mathlib.Core.Bool.{Bool, true, false, not, _&&_, _||_, cond, Bool·beq, true≢false}
+use mathlib.Core.Bool.{Bool, true, false, not, _&&_, cond, Bool·beq, true≢false}
 use Prim.Native.Nat.{ℕ, zero, suc, _+_, _-_, _*_, _^_, _≤_, _<_}
 use native.Mathlib.Nat.{not-le-of-lt, zero-mul, sub-zero, mul-pos, mul-le-mul-right, mul-one, one-mul}
 use native.Mathlib.Omega.{arith}
 use lib.IntN.{ℤ, pos}
-use lib.Dec.{T, ltb, eqb, leb·suc-zero, eqb→eq, ltb→lt, lt→ltb}
+use lib.Dec.{T, ltb, eqb, leb·suc-zero, eqb→eq, lt→ltb}
 use lib.Ieee.{Float, nan, inf, fin, Format, binary32, binary64, prec, emax, low, up, down, odd, units, round, sum, add, sub, neg, le, isNan}
 use lib.Ieee.Bits.{is-true}
 use lib.Ieee.Fits.{up-pos, down-pos, round-is}

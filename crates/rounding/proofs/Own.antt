@@ -3,7 +3,7 @@ use mathlib.Core.Path.{_≡_, refl, sym, ap, _∙_, subst}
 use mathlib.Core.Logic.{inl, inr}
 use mathlib.Core.Bool.{Bool}
 use Prim.Native.Nat.{ℕ, suc, _+_, _-_, _*_, _/_, _%_, _^_, _≤_, _<_}
-use native.Mathlib.Nat.{le-trans, le-of-eq, le-of-mul-le-mul-right, lt-of-lt-of-le, eq-or-lt-of-le, eq-zero-or-pos, mod-lt, le-add-right, div-add-mod'}
+use native.Mathlib.Nat.{lt-of-lt-of-le, eq-or-lt-of-le, eq-zero-or-pos, mod-lt}
 use native.Mathlib.Omega.{arith}
 use lib.IntN.{ℤ}
 use lib.Dec.{T, leb}
