@@ -10,8 +10,8 @@ use native.Mathlib.Numerals.{add-one}
 use borrow.Author.Count.{below-more}
 use borrow.Author.Tests.{ltb-true, ltb-false, lt-ltb, le-ltb}
 use lib.Dec.{ltb}
-use lib.ListN.{length, getD, take, drop, set, List·getD-append}
-use lib.Seq.{length-take-le, getD-take, getD-drop, getD-append-add, paste, paste-zero, paste-suc, length-paste, length-paste-head}
+use lib.ListN.{length, getD, take, drop, List·getD-append}
+use lib.Seq.{length-take-le, getD-take, getD-drop, getD-append-add, paste, length-paste, length-paste-head}
 use lib.Ieee.{Float, nan, lt}
 use Rattle.numbers.specs.Notation.{num, ratio, if-then}
 use Rattle.numbers.specs.declared.Failure.the-variants.{Numerical}
@@ -34,7 +34,7 @@ unfolding stowedFrom edgeFrom if-then ratio lt
 cell-stowed (Into a) = refl
 cell-stowed (Bad Numerical) = refl
 
-cell-length : (x : Converted) → length (eightOf x) ≡ 8
+pub cell-length : (x : Converted) → length (eightOf x) ≡ 8
 cell-length (Into a) = refl
 cell-length (Bad why) = refl
 
@@ -103,21 +103,6 @@ cell-stows l e x b = subst (λ (m : List Float). Stows l m e x) (sym (cell-paste
           there = λ k d. ap stowedFrom (edge-ext (λ i. getD (paste l (e * 8) (eightOf x) 8) (k * 8 + i) nan) (λ i. getD l (k * 8 + i) nan)
               (λ i q. pasted-out l (e * 8) (eightOf x) 8 b full (k * 8 + i) (beyond k i q (apart k e d))));
         }
-
--- how the code writes it: ns are its numbers, j of them written
-pub put-none : (l : List Float) (e : ℕ) (ns : List Float) → l ≡ paste l (e * 8) ns 0
-put-none l e ns = paste-zero l (e * 8) ns
-
-module _ (l₀ : List Float) (e : ℕ) (x : Converted) {ns : List Float} (n : ns ≡ eightOf x) (room : e * 8 + 8 ≤ length l₀) {l : List Float} (j : ℕ)
-    (i : l ≡ paste l₀ (e * 8) ns j) where
-  pub put-more : j < 8 → set l (e * 8 + j) (getD ns j nan) ≡ paste l₀ (e * 8) ns (j + 1)
-  put-more q =
-      let h : length ns ≡ 8 = ap length n ∙ cell-length x in
-      ap (λ (l : List Float). set l (e * 8 + j) (getD ns j nan)) i ∙ paste-suc l₀ (e * 8) ns j nan (omega arith) (omega arith)
-      ∙ ap (paste l₀ (e * 8) ns) (sym (add-one j))
-
-  pub put-all : j ≡ 8 → l ≡ withCell l₀ e x
-  put-all q = i ∙ ap (paste l₀ (e * 8) ns) q ∙ ap (λ (ns : List Float). paste l₀ (e * 8) ns 8) n ∙ sym (cell-pasted l₀ e x)
 
 -- ---- a cell replaced where it is lent
 stowing-in : (l : List Float) (e : ℕ) (x : Converted) → e < length l / 8 → stowing l e x ≡ withCell l e x

@@ -49,13 +49,8 @@ fn put_cell(l: &mut [f32], e: usize, x: Converted)
     requires { ⌜ e * 8 + 8 ≤ length (now l) ⌝ }
     ensures { λ _. ⌜ became l ≡ withCell (was l) e x ⌝ }
 {
-    let ns = eight_of(x);
     let at = e * 8;
-    let mut j = 0usize;
-    while j < 8 {
-        l[at + j] = ns[j];
-        j += 1;
-    }
+    slices::copy32(&eight_of(x), &mut l[at..at + 8]);
 }
 
 // Cell e becomes x, where it is lent.

@@ -28,7 +28,7 @@ use Rattle.line.proofs.Lines.{shown-whole, used-whole}
 use Rattle.line.proofs.FloatSamples.{float-length}
 use Rattle.telling.specs.Telling.{joinedCosts, measuresFour, fitsClosing}
 use Rattle.exports.specs.Closings.{LentScan, scanLists, gravityOf, closedNine, closedTold, closedWith, textOut}
-use Rattle.exports.proofs.Copies.{laid}
+use Rattle.slices.proofs.Laws.{copied-as}
 
 -- ---- a scan's loops closed
 
@@ -42,15 +42,15 @@ pub nine-long : (a : Closed) → length (closedNine a) ≡ 9
 nine-long (closed.Ran x) = refl
 nine-long (closed.Refused r) = refl
 
--- nine numbers and, of a scan whose run was joined, costs and measures, each laid over what was found
+-- nine numbers and, of a scan whose run was joined, costs and measures, each copied-as over what was found
 module _ (a : Closed) (found : List ℕ) (costs measures : List Float) {nine last : List ℕ}
     (h : length found ≡ 9) (e : nine ≡ closedNine a) (p : last ≡ copied nine found) where
   whole : last ≡ closedNine a
-  whole = laid (closedNine a) found e (h ∙ sym (nine-long a)) p
+  whole = copied-as (closedNine a) found e (h ∙ sym (nine-long a)) p
 
   pub closed-ran : {x : PgoResult} {two c four m : List Float} → a ≡ closed.Ran x → length costs ≡ 2 → two ≡ joinedCosts (x .run) → c ≡ copied two costs
       → length measures ≡ 4 → four ≡ measuresFour (x .measures) → m ≡ copied four measures → (0, last, c, m) ≡ closedTold costs measures a
-  closed-ran {x} g k t q k4 f s = rw (whole, laid (joinedCosts (x .run)) costs t k q, laid (measuresFour (x .measures)) measures f k4 s, g)
+  closed-ran {x} g k t q k4 f s = rw (whole, copied-as (joinedCosts (x .run)) costs t k q, copied-as (measuresFour (x .measures)) measures f k4 s, g)
 
   pub closed-refused : {r : Refusal} → a ≡ closed.Refused r → (r .number, last, costs, measures) ≡ closedTold costs measures a
   closed-refused g = rw (whole, g)

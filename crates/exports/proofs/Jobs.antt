@@ -14,7 +14,7 @@ use Rattle.job.specs.declared.Written.{Written}
 use Rattle.job.specs.declared.Written.the-variants as written
 use Rattle.telling.specs.Telling.{readNumber, readAnswer, writtenNumber, writtenTwo}
 use Rattle.exports.specs.Jobs.{readTold, readOut, writeTold, writeOut}
-use Rattle.exports.proofs.Copies.{laid}
+use Rattle.slices.proofs.Laws.{copied-as}
 
 pub read-long : (v : Read) → length (readAnswer v) ≡ 8
 read-long (read.Job t had) = refl
@@ -28,10 +28,10 @@ pub read-told : (s : List ℕ) (l : Space) (a : List ℕ) {k : Space} {v : Read}
     → length a ≡ 8 → (v, k) ≡ readInto s l → eight ≡ readAnswer v → last ≡ copied eight a → n ≡ readNumber v → (n, k, last) ≡ readOut s l a
 unfolding readOut
 read-told s l a {v = v} h e t p q =
-    taken _ (eq-eqb _ _ h) (rw (q, laid (readAnswer v) a t (h ∙ sym (read-long v)) p) (ap readTold e))
+    taken _ (eq-eqb _ _ h) (rw (q, copied-as (readAnswer v) a t (h ∙ sym (read-long v)) p) (ap readTold e))
 
 pub written-told : (j : Job) (f a : List ℕ) {o : List ℕ} {v : Written} {n : ℕ} {two last : List ℕ}
     → length a ≡ 2 → (v, o) ≡ writtenInto j f → two ≡ writtenTwo v → last ≡ copied two a → n ≡ writtenNumber v → (n, o, last) ≡ writeOut j f a
 unfolding writeOut
 written-told j f a {v = v} h e t p q =
-    taken _ (eq-eqb _ _ h) (rw (q, laid (writtenTwo v) a t (h ∙ sym (written-long v)) p) (ap writeTold e))
+    taken _ (eq-eqb _ _ h) (rw (q, copied-as (writtenTwo v) a t (h ∙ sym (written-long v)) p) (ap writeTold e))

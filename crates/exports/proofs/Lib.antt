@@ -1,4 +1,3 @@
-pub mod Copies
 pub mod Steps
 pub mod Telling
 pub mod Jobs

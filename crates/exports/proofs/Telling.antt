@@ -30,7 +30,7 @@ use Rattle.sparse_pgo.specs.declared.Joined.{Joined}
 use Rattle.sparse_pgo.proofs.Looping.{not-above}
 use Rattle.telling.specs.Telling.{joinedCosts, answerEight}
 use Rattle.exports.specs.Exported.{LentRun, lists, told, fitsRun, ranWith, fitsDecide}
-use Rattle.exports.proofs.Copies.{laid}
+use Rattle.slices.proofs.Laws.{copied-as}
 
 pub fit-run : (a c : ℕ) → fitsRun a c ≡ true → (a ≡ 8) × (c ≡ 2)
 fit-run a c h = (eqb-true _ _ (and-first (eqb a 8) _ h), eqb-true _ _ (and-second (eqb a 8) _ h))
@@ -42,15 +42,15 @@ pub eight-long : (a : Answer) → length (answerEight a) ≡ 8
 eight-long (answer.Joined j) = refl
 eight-long (answer.Refused r) = refl
 
--- the eight numbers and, of a run that was joined, the costs, each laid over what was found
+-- the eight numbers and, of a run that was joined, the costs, each copied-as over what was found
 module _ (a : Answer) (found : List ℕ) (costs : List Float) {eight last : List ℕ} (h : length found ≡ 8) (e : eight ≡ answerEight a)
     (p : last ≡ copied eight found) where
   whole : last ≡ answerEight a
-  whole = laid (answerEight a) found e (h ∙ sym (eight-long a)) p
+  whole = copied-as (answerEight a) found e (h ∙ sym (eight-long a)) p
 
   pub told-joined : {j : Joined} {two c : List Float} → a ≡ answer.Joined j → length costs ≡ 2 → two ≡ joinedCosts j → c ≡ copied two costs
       → (0, last, c) ≡ told costs a
-  told-joined {j} g k t q = rw (whole, laid (joinedCosts j) costs t k q, g)
+  told-joined {j} g k t q = rw (whole, copied-as (joinedCosts j) costs t k q, g)
 
   pub told-refused : {r : Refusal} → a ≡ answer.Refused r → (r .number, last, costs) ≡ told costs a
   told-refused g = rw (whole, g)

@@ -1,13 +1,13 @@
--- Rows of one width, strung one after another (`strung`, numbers): an array that is filled with them from the start, and one row put into it.
+-- Rows of one width, strung one after another (`strung`, numbers): an array that is filled with them from the start.
 -- Assumes nothing.
 use mathlib.Core.Path.{_≡_, sym, ap, ap₂, _∙_}
 use mathlib.Core.List.{List, [], _∷_, _++_}
-use Prim.Native.Nat.{ℕ, zero, suc, _+_, _-_, _*_, _<_, _≤_}
+use Prim.Native.Nat.{ℕ, zero, suc, _+_, _-_, _*_, _≤_}
 use native.Mathlib.Nat.{zero-add, suc-add, zero-mul, suc-mul}
 use native.Mathlib.Numerals.{add-one}
 use native.Mathlib.Omega.{arith}
-use lib.ListN.{length, getD, take, drop, set, replicate, length-replicate, length-set}
-use lib.Seq.{take-at, drop-append-add, sets-eq, take-all, paste, paste-zero, paste-suc}
+use lib.ListN.{length, take, drop, set, replicate, length-replicate, length-set}
+use lib.Seq.{take-at, drop-append-add, sets-eq}
 use Rattle.numbers.specs.Walks.{strung}
 use Rattle.numbers.proofs.Strung.{strung-long}
 
@@ -61,17 +61,3 @@ filled-pair {A} {f} {N} {z} {l} {a} {b} k wide h q e =
     filled-more f 2 wide k h q e
     (ap (λ (i : ℕ). set (set l (k * 2) a) i b) (add-one (k * 2)) ∙ sets-eq (a ∷ b ∷ []) l (k * 2) (let s : length l ≡ N = h .long in omega arith))
     (simp length-set)
-
--- ---- a row put into a list from place `at` on, element by element: j of its w are there
-module _ {A : Type 0} (l₀ : List A) (at : ℕ) (ns : List A) where
-  pub put-none : l₀ ≡ paste l₀ at ns 0
-  put-none = paste-zero l₀ at ns
-
-  module _ {l : List A} (j : ℕ) (i : l ≡ paste l₀ at ns j) where
-    pub put-more : (z : A) → at + j < length l₀ → j < length ns → set l (at + j) (getD ns j z) ≡ paste l₀ at ns (j + 1)
-    put-more z p q = ap (λ (l : List A). set l (at + j) (getD ns j z)) i ∙ paste-suc l₀ at ns j z p q ∙ ap (paste l₀ at ns) (sym (add-one j))
-
-    pub put-all : {xs : List A} (w : ℕ) → ns ≡ xs → length xs ≡ w → j ≡ w → l ≡ take at l₀ ++ xs ++ drop (at + w) l₀
-    put-all {xs} w e h q =
-        i ∙ ap (paste l₀ at ns) q
-        ∙ ap (λ (xs : List A). take at l₀ ++ xs ++ drop (at + w) l₀) (take-all w ns (let s : length ns ≡ length xs = ap length e in omega arith) ∙ e)

@@ -207,13 +207,8 @@ fn put_edge(edges: &mut [f32], k: usize, e: Edge)
     requires { ⌜ k * 8 + 8 ≤ length (now edges) ⌝ }
     ensures { λ _. ⌜ became edges ≡ take (k * 8) (was edges) ++ edgeNumbers e ++ drop (k * 8 + 8) (was edges) ⌝ }
 {
-    let ns = edge_numbers(e);
     let at = k * 8;
-    let mut j = 0usize;
-    while j < 8 {
-        edges[at + j] = ns[j];
-        j += 1;
-    }
+    slices::copy32(&edge_numbers(e), &mut edges[at..at + 8]);
 }
 
 fn zero_edges() -> [f32; 8200]

@@ -2,14 +2,14 @@
 use mathlib.Core.Path.{_≡_, refl, sym, ap, _∙_, subst}
 use mathlib.Core.Logic.{inr}
 use mathlib.Core.Bool.{Bool, true, false}
-use mathlib.Core.List.{List, _++_, append-nil}
+use mathlib.Core.List.{List, _++_, append-nil, append-assoc}
 use Prim.Native.Nat.{ℕ, _+_, _-_, _<_, _≤_, min}
 use native.Mathlib.Nat.{le-of-eq, le-min, min-le-left, min-eq-left, min-eq-right, sub-add-min-cancel}
 use native.Mathlib.Omega.{arith}
 use borrow.Author.Tests.{ltb-true, ltb-false}
 use lib.Dec.{ltb}
 use lib.ListN.{length, getD, take, drop, replicate, length-append, length-take, length-drop, length-replicate, List·getD-append, drop-of-length-le}
-use lib.Seq.{ext-getD, length-take-le, getD-take, getD-drop, getD-append-add, take-length}
+use lib.Seq.{ext-getD, length-take-le, getD-take, getD-drop, getD-append-add, take-length, drop-drop}
 use lib.Ieee.{Float}
 use Rattle.numbers.specs.Notation.{num}
 use Rattle.numbers.proofs.Laying.{Laid, from-start}
@@ -53,6 +53,9 @@ module _ {A : Type 0} (d : A) where
 pub copied-whole : {A : Type 0} (m l : List A) → length l ≡ length m → copied m l ≡ m
 copied-whole m l e = rw (e, take-length m) (ap (λ x. m ++ x) (drop-of-length-le l (le-of-eq e)) ∙ append-nil m)
 
+pub copied-as : {A : Type 0} (ns l : List A) {m k : List A} → m ≡ ns → length l ≡ length ns → k ≡ copied m l → k ≡ ns
+copied-as {A} ns l e h c = c ∙ ap (λ (z : List A). copied z l) e ∙ copied-whole ns l h
+
 -- over a list that is no longer, a copy is the front of the other
 pub copied-front : {A : Type 0} (m l : List A) → length l ≤ length m → copied m l ≡ take (length l) m
 copied-front {A} m l h = ap (λ (z : List A). take (length l) m ++ z) (drop-of-length-le l h) ∙ append-nil (take (length l) m)
@@ -60,6 +63,33 @@ copied-front {A} m l h = ap (λ (z : List A). take (length l) m ++ z) (drop-of-l
 -- the front of a list cleared, its rest as it was
 pub cleared-front : (k : ℕ) (w : List Float) → k ≤ length w → replicate (length (take k w)) (num 0) ++ drop k w ≡ zeroed k w
 cleared-front k w h = ap (λ (n : ℕ). replicate n (num 0) ++ drop k w) (length-take k w ∙ min-eq-left h)
+
+-- ---- what is done on a part alone, the k elements from `at` on: these are replaced, and no others
+module _ {A : Type 0} (at k : ℕ) (l : List A) (room : at + k ≤ length l) where
+  part-long : length (take (at + k - at) (drop at l)) ≡ k
+  part-long =
+      let e : at + k - at ≡ k = omega arith in
+      length-take-le (at + k - at) (drop at l) (rw (length-drop at l) (omega arith)) ∙ e
+
+  replaced : (ns : List A) → take at l ++ (ns ++ drop (at + k - at) (drop at l)) ≡ take at l ++ ns ++ drop (at + k) l
+  replaced ns =
+      let e : at + (at + k - at) ≡ at + k = omega arith in
+      ap (λ (z : List A). take at l ++ (ns ++ z)) (drop-drop (at + k - at) at l ∙ ap (λ (n : ℕ). drop n l) e)
+      ∙ sym (append-assoc (take at l) ns (drop (at + k) l))
+
+  -- k elements copied there
+  pub copied-within : (ns : List A) {m ys : List A} → m ≡ ns → length ns ≡ k → ys ≡ copied m (take (at + k - at) (drop at l))
+      → take at l ++ (ys ++ drop (at + k - at) (drop at l)) ≡ take at l ++ ns ++ drop (at + k) l
+  copied-within ns e h c =
+      ap (λ (z : List A). take at l ++ (z ++ drop (at + k - at) (drop at l))) (copied-as ns (take (at + k - at) (drop at l)) e (part-long ∙ sym h) c)
+      ∙ replaced ns
+
+-- or cleared
+pub cleared-within : (at k : ℕ) (w : List Float) {ys : List Float} → at + k ≤ length w → ys ≡ replicate (length (take (at + k - at) (drop at w))) (num 0)
+    → take at w ++ (ys ++ drop (at + k - at) (drop at w)) ≡ take at w ++ replicate k (num 0) ++ drop (at + k) w
+cleared-within at k w room c =
+    ap (λ (z : List Float). take at w ++ (z ++ drop (at + k - at) (drop at w))) (c ∙ ap (λ (n : ℕ). replicate n (num 0)) (part-long at k w room))
+    ∙ replaced at k w room (replicate k (num 0))
 
 -- ---- an array made of one number: its count is known without a look at it
 

@@ -2,15 +2,15 @@
 use mathlib.Core.Path.{_≡_, refl, sym, ap, _∙_, subst}
 use mathlib.Core.Logic.{_⊎_, inl, inr, ⊎-elim}
 use mathlib.Core.Bool.{Bool, true, false}
-use mathlib.Core.List.{List}
+use mathlib.Core.List.{List, _++_}
 use Prim.Native.Nat.{ℕ, zero, suc, _+_, _-_, _*_, _/_, _%_, _<_, _≤_}
 use native.Mathlib.Nat.{eq-or-lt-of-le, div-add-mod', div-lt-iff-lt-mul, mod-lt}
 use native.Mathlib.Omega.{arith}
 use borrow.Author.Tests.{lt-ltb, le-ltb, le-leb, lt-leb, ltb-true, ltb-false}
 use lib.Arith.{digits-div, digits-mod, digits-lt}
 use lib.Dec.{ltb, leb}
-use lib.ListN.{length, getD, set, length-set}
-use lib.Seq.{getD-set-same, getD-set-other}
+use lib.ListN.{length, getD, set, take, drop, replicate, length-set, length-replicate, getD-replicate}
+use lib.Seq.{getD-set-same, getD-set-other, take-all, paste, paste-zero, paste-suc}
 use lib.Ieee.{Float, nan}
 use Rattle.numbers.specs.Notation.{num, if-then}
 use Rattle.numbers.proofs.Choices.{taken, left}
@@ -171,6 +171,22 @@ cleared-out w p zero q h = refl
 cleared-out w p (suc k) q h =
     getD-set-other (clearedAt w p k) (p + k) q (num 0) nan (λ z. ⊎-elim (λ (l : q < p). omega arith) (λ (l : p + suc k ≤ q). omega arith) h)
     ∙ cleared-out w p k q (⊎-elim (λ (l : q < p). inl l) (λ (l : p + suc k ≤ q). inr (omega arith)) h)
+
+-- what it leaves as one list: +0 in the place of the m numbers from p on
+cleared-first : (w : List Float) (p m k : ℕ) → p + m ≤ length w → k ≤ m → paste w p (replicate m (num 0)) k ≡ clearedAt w p k
+unfolding clearedAt
+cleared-first w p m zero h l = sym (paste-zero w p (replicate m (num 0)))
+cleared-first w p m (suc k) h l =
+    let zeros = replicate m (num 0) in
+    sym
+    (ap (λ (x : List Float). set x (p + k) (num 0)) (sym (cleared-first w p m k h (omega arith)))
+    ∙ ap (λ (x : Float). set (paste w p zeros k) (p + k) x) (sym (getD-replicate m k (num 0) nan l))
+    ∙ paste-suc w p zeros k nan (omega arith) (omega (arith, length-replicate m (num 0))))
+
+pub cleared-whole : (w : List Float) (p m : ℕ) → p + m ≤ length w → take p w ++ replicate m (num 0) ++ drop (p + m) w ≡ clearedAt w p m
+cleared-whole w p m h =
+    ap (λ (x : List Float). take p w ++ x ++ drop (p + m) w) (sym (take-all m (replicate m (num 0)) (omega (arith, length-replicate m (num 0)))))
+    ∙ cleared-first w p m m h (omega arith)
 
 -- clearing the step keeps what is kept
 pub cleared-spares : (n : ℕ) (w : List Float) (q : ℕ) → placeOf n q ≡ kept → getD (clearedAt w (n * n + n + n) n) q nan ≡ getD w q nan

@@ -28,11 +28,7 @@ fn clear(w: &mut [f32], p: usize, m: usize)
     requires { ⌜ p + m ≤ length (now w) ⌝ }
     ensures { λ _. ⌜ became w ≡ P.clearedAt (was w) p m ⌝ }
 {
-    let mut k = 0usize;
-    while k < m {
-        w[p + k] = 0.0;
-        k += 1usize;
-    }
+    slices::clear32(&mut w[p..p + m]);
 }
 
 // The rows of L, without the diagonal.

@@ -10,7 +10,7 @@ use Rattle.exp_log.specs.ExpLog.{expOf}
 use Rattle.numbers.proofs.Steps.{passed, turned-away}
 use Rattle.numbers.specs.Notation.{numberAt}
 use Rattle.exports.specs.Layers.{three, movedOut, expOut}
-use Rattle.exports.proofs.Copies.{laid}
+use Rattle.slices.proofs.Laws.{copied-as}
 use Rattle.exports.proofs.pgo_exp.Statement.{statement}
 use Rattle.exports.proofs.pgo_exp.Tie as tie
 
@@ -71,7 +71,7 @@ returns-3 c =
     let at-if1 = at-exp .before .before .before in
     let z = at-if1 .before .before .before in
     passed _ refl (at-if1 .if1 .left)
-    (rw (laid _ (now (z .args .out)) (at-transform-numbers .transform-numbers .ensures)
+    (rw (copied-as _ (now (z .args .out)) (at-transform-numbers .transform-numbers .ensures)
     (eqb-true _ _ (and-second (eqb (length (now (z .args .delta))) 6) _ (not-false _ (at-if1 .if1 .left)))) (at-copy32 .copy32 .ensures))
     (ap (movedOut (now (z .args .out))) (sym (at-a .a .given .1) ∙ found at-exp)))
 

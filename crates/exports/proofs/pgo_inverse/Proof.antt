@@ -6,7 +6,7 @@ use borrow.Author.Tests.{eqb-true, not-false}
 use Rattle.numbers.proofs.Tests.{and-second}
 use Rattle.numbers.proofs.Steps.{passed, turned-away}
 use Rattle.exports.specs.Layers.{inverseOut}
-use Rattle.exports.proofs.Copies.{laid}
+use Rattle.slices.proofs.Laws.{copied-as}
 use Rattle.exports.proofs.pgo_inverse.Statement.{statement}
 use Rattle.exports.proofs.pgo_inverse.Tie as tie
 
@@ -43,7 +43,7 @@ returns-2 c =
     let z = at-if1 .before .before .before in
     passed _ refl (at-if1 .if1 .left)
     (rw (
-      laid _ (now (z .args .out)) (at-transform-numbers .transform-numbers .ensures)
+      copied-as _ (now (z .args .out)) (at-transform-numbers .transform-numbers .ensures)
           (eqb-true _ _ (and-second (eqb (length (now (z .args .a))) 7) _ (not-false _ (at-if1 .if1 .left)))) (at-copy32 .copy32 .ensures),
       at-inverse-of .inverse-of .ensures,
       at-transform-from .transform-from .ensures,

@@ -6,7 +6,7 @@ use borrow.Author.Tests.{eqb-true, not-false}
 use Rattle.numbers.proofs.Tests.{and-second}
 use Rattle.numbers.proofs.Steps.{passed, turned-away}
 use Rattle.exports.specs.Layers.{logOut}
-use Rattle.exports.proofs.Copies.{laid}
+use Rattle.slices.proofs.Laws.{copied-as}
 use Rattle.exports.proofs.pgo_log.Statement.{statement}
 use Rattle.exports.proofs.pgo_log.Tie as tie
 
@@ -43,7 +43,7 @@ returns-2 c =
     let z = at-if1 .before .before .before in
     passed _ refl (at-if1 .if1 .left)
     (rw (
-      laid _ (now (z .args .out)) (at-six-of .six-of .ensures)
+      copied-as _ (now (z .args .out)) (at-six-of .six-of .ensures)
           (eqb-true _ _ (and-second (eqb (length (now (z .args .t))) 7) _ (not-false _ (at-if1 .if1 .left)))) (at-copy32 .copy32 .ensures),
       at-log .log .ensures,
       at-transform-from .transform-from .ensures,

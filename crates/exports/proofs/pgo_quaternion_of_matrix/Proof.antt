@@ -6,7 +6,7 @@ use borrow.Author.Tests.{eqb-true, not-false}
 use Rattle.numbers.proofs.Tests.{and-second}
 use Rattle.numbers.proofs.Steps.{passed, turned-away}
 use Rattle.exports.specs.Layers.{quaternionOut}
-use Rattle.exports.proofs.Copies.{laid}
+use Rattle.slices.proofs.Laws.{copied-as}
 use Rattle.exports.proofs.pgo_quaternion_of_matrix.Statement.{statement}
 use Rattle.exports.proofs.pgo_quaternion_of_matrix.Tie as tie
 
@@ -43,7 +43,7 @@ returns-2 c =
     let z = at-if1 .before .before .before in
     passed _ refl (at-if1 .if1 .left)
     (rw (
-      laid _ (now (z .args .out)) (at-quat-numbers .quat-numbers .ensures)
+      copied-as _ (now (z .args .out)) (at-quat-numbers .quat-numbers .ensures)
           (eqb-true _ _ (and-second (eqb (length (now (z .args .m))) 9) _ (not-false _ (at-if1 .if1 .left)))) (at-copy32 .copy32 .ensures),
       at-quat-of-matrix .quat-of-matrix .ensures,
       at-matrix-from .matrix-from .ensures,

@@ -8,7 +8,7 @@ use Rattle.residual.specs.Residuals.{residualOf}
 use Rattle.numbers.proofs.Steps.{passed, turned-away}
 use Rattle.exports.specs.Layers.{pose, edge, sixOut, residualOut}
 use Rattle.exports.proofs.Steps.{one-pose, one-edge}
-use Rattle.exports.proofs.Copies.{laid}
+use Rattle.slices.proofs.Laws.{copied-as}
 use Rattle.exports.proofs.pgo_residual.Statement.{statement}
 use Rattle.exports.proofs.pgo_residual.Tie as tie
 
@@ -81,7 +81,7 @@ returns-3 c =
     let at-if1 = at-weighted-relative-residual .before .before .before .before in
     let z = at-if1 .before .before .before .before .before in
     passed _ refl (at-if1 .if1 .left)
-    (rw (laid _ (now (z .args .out)) (at-six-of .six-of .ensures)
+    (rw (copied-as _ (now (z .args .out)) (at-six-of .six-of .ensures)
     (eqb-true _ _ (and-second (eqb (length (now (z .args .edge))) 8) _
     (and-second (eqb (length (now (z .args .b))) 12) _ (and-second (eqb (length (now (z .args .a))) 12) _ (not-false _ (at-if1 .if1 .left))))))
     (at-copy32 .copy32 .ensures))

@@ -9,7 +9,7 @@ use Rattle.retraction.specs.Retraction.{retractOf}
 use Rattle.numbers.proofs.Steps.{passed, turned-away}
 use Rattle.exports.specs.Layers.{three, pose, restoredOut, retractGravityOut}
 use Rattle.exports.proofs.Steps.{first-six-do, one-pose}
-use Rattle.exports.proofs.Copies.{laid}
+use Rattle.slices.proofs.Laws.{copied-as}
 use Rattle.exports.proofs.pgo_retract_with_gravity.Statement.{statement}
 use Rattle.exports.proofs.pgo_retract_with_gravity.Tie as tie
 
@@ -72,7 +72,7 @@ returns-3 c =
     let at-if1 = at-retract .before .before .before .before in
     let z = at-if1 .before .before .before .before .before in
     passed _ refl (at-if1 .if1 .left)
-    (rw (laid _ (now (z .args .out)) (at-numbers-of .numbers-of .ensures)
+    (rw (copied-as _ (now (z .args .out)) (at-numbers-of .numbers-of .ensures)
     (eqb-true _ _ (and-second (eqb (length (now (z .args .delta))) 4) _
     (and-second (eqb (length (now (z .args .pose))) 12) _ (and-second (eqb (length (now (z .args .g))) 3) _ (not-false _ (at-if1 .if1 .left))))))
     (at-copy64 .copy64 .ensures))

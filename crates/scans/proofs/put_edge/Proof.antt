@@ -1,81 +1,61 @@
--- `scans::put_edge` meets its contract: after j turns the first j numbers are in their place. Assumes nothing.
-use Prim.Native.Nat.{_-_, _*_, _≤_}
-use native.Mathlib.Omega.{arith}
-use mathlib.Core.Path.{_≡_, refl, ap}
+-- `scans::put_edge` meets its contract: eight numbers copied over the part that is an edge's. Assumes nothing.
+use mathlib.Core.Path.{refl, ap, sym}
+use Prim.Native.Nat.{_*_}
+use denote.Ref.{now}
+use lib.ListN.{length}
 use borrow.Author.Needs.{needs}
-use lib.ListN.{length, length-set}
-use lib.Seq.{paste}
-use Rattle.scans.proofs.Strings.{put-none, put-more, put-all}
+use Rattle.slices.proofs.Laws.{copied-within}
 use Rattle.scans.proofs.put_edge.Statement.{statement}
 use Rattle.scans.proofs.put_edge.Tie as tie
 
-abbrev Inv-loop : tie.InvT-loop
-Inv-loop edges₀ k ns at j₀ edges j = (j ≤ 8) × (length edges ≡ length edges₀) × (edges ≡ paste edges₀ at ns j)
-
-abbrev μ-loop : tie.MeasureT-loop
-μ-loop edges₀ k ns at j₀ edges j = 8 - j
-
-edge-numbers-requires : tie.Need-edge-numbers-requires Inv-loop μ-loop
-edge-numbers-requires c κs = search needs
-
-mul-at : tie.Need-mul-at Inv-loop μ-loop
+mul-at : tie.Need-mul-at
 mul-at c = search needs
 
-loop-holds : tie.Need-loop-holds Inv-loop μ-loop
-loop-holds c = (omega arith, refl, put-none _ (c .before .before .args .k * 8) (c .edge-numbers .result))
+edge-numbers-requires : tie.Need-edge-numbers-requires
+edge-numbers-requires c κs = tt
 
-mul-edges : tie.Need-mul-edges Inv-loop μ-loop
-mul-edges c = search needs
+slice-aggregate-copy32 : tie.Need-slice-aggregate-copy32
+slice-aggregate-copy32 c = sym (ap length (c .before .edge-numbers .ensures))
 
-array-read-edges : tie.Need-array-read-edges Inv-loop μ-loop
-array-read-edges c = search needs
+add-copy32 : tie.Need-add-copy32
+add-copy32 c = search needs
 
-add-edges : tie.Need-add-edges Inv-loop μ-loop
-add-edges c = search needs
+mul-copy32 : tie.Need-mul-copy32
+mul-copy32 c = search needs
 
-mul-edges-2 : tie.Need-mul-edges-2 Inv-loop μ-loop
-mul-edges-2 c = search needs
+sub-copy32 : tie.Need-sub-copy32
+sub-copy32 c = search needs
 
-slice-write-edges : tie.Need-slice-write-edges Inv-loop μ-loop
-slice-write-edges c = search needs
+part-copy32-start : tie.Need-part-copy32-start
+part-copy32-start c = search needs
 
-add-j : tie.Need-add-j Inv-loop μ-loop
-add-j c = search needs
+part-copy32-end : tie.Need-part-copy32-end
+part-copy32-end c = search needs
 
-loop-less : tie.Need-loop-less Inv-loop μ-loop
-loop-less c = search needs
+copy32-requires : tie.Need-copy32-requires
+copy32-requires c κs = tt
 
-loop-again : tie.Need-loop-again Inv-loop μ-loop
-loop-again c =
-    let o = c .before .before .before .before in
-    let i = c .before .loop .inv in
-    let w : length (c .before .before .edge-numbers .result) ≡ 8 = ap length (c .before .before .edge-numbers .ensures) in
-    (omega arith, simp length-set (i .1), put-more _ _ _ (c .before .loop .j) (i .2) _ (omega arith) (omega arith))
+same-length : tie.Need-same-length
+same-length c = search needs
 
-same-length : tie.Need-same-length Inv-loop μ-loop
-same-length c = c .before .loop .inv .1
-
-returns : tie.Need-returns Inv-loop μ-loop
+returns : tie.Need-returns
 returns c =
-    let a = c .before .before .before .before .args in
-    put-all (a .edges .now) (a .k * 8) _ (c .before .loop .j) (c .before .loop .inv .2) 8 (c .before .before .edge-numbers .ensures) refl (omega arith)
+    let o = c .before .before .before .before .before .before .before in
+    copied-within (o .args .k * 8) 8 (now (o .args .edges)) (o .pre) _ (c .before .before .before .before .before .edge-numbers .ensures) refl
+    (c .before .before .copy32 .ensures)
 
 pub put-edge-spec : {M : Type 1} → statement M
 put-edge-spec =
     tie.close
     (tie.spec
-    Inv-loop
-    μ-loop
-    edge-numbers-requires
     mul-at
-    loop-holds
-    mul-edges
-    array-read-edges
-    add-edges
-    mul-edges-2
-    slice-write-edges
-    add-j
-    loop-less
-    loop-again
+    edge-numbers-requires
+    slice-aggregate-copy32
+    add-copy32
+    mul-copy32
+    sub-copy32
+    part-copy32-start
+    part-copy32-end
+    copy32-requires
     same-length
     returns)

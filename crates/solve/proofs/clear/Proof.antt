@@ -1,72 +1,49 @@
-use mathlib.Core.Path.{_≡_, refl, _∙_, ap}
-use Prim.Native.Nat.{ℕ, _+_, _-_, _≤_}
-use native.Mathlib.Numerals.{add-one}
+-- `solve::clear` meets its contract: the part that is cleared, put back. Assumes nothing.
+use mathlib.Core.Path.{_∙_}
 use native.Mathlib.Omega.{arith}
 use denote.Ref.{now}
-use mathlib.Core.List.{List}
-use lib.ListN.{length, set, length-set}
-use lib.Ieee.{Float, binary32, ofBits}
-use Rattle.solve.specs.forms.Profile.{clearedAt}
-use Rattle.profile.proofs.Zeros.{literal-zero}
+use borrow.Author.Needs.{needs}
+use Rattle.slices.proofs.Laws.{cleared-within}
+use Rattle.solve.proofs.Places.{cleared-whole}
 use Rattle.solve.proofs.clear.Statement.{statement}
 use Rattle.solve.proofs.clear.Tie as tie
 
-abbrev Inv-loop : tie.InvT-loop
-Inv-loop w₀ p m k₀ w k = (k ≤ m) × (length w ≡ length w₀) × (w ≡ clearedAt w₀ p k)
+add-clear32 : tie.Need-add-clear32
+add-clear32 c = omega arith
 
-abbrev μ-loop : tie.MeasureT-loop
-μ-loop w₀ p m k₀ w k = m - k
+mul-clear32 : tie.Need-mul-clear32
+mul-clear32 c = search needs
 
-turn : (w u : List Float) (p k : ℕ) → u ≡ clearedAt w p k → set u (p + k) (ofBits binary32 0) ≡ clearedAt w p (k + 1)
-unfolding clearedAt
-turn w u p k e = rw (add-one k, ← e, literal-zero)
+sub-clear32 : tie.Need-sub-clear32
+sub-clear32 c = search needs
 
-loop-holds : tie.Need-loop-holds Inv-loop μ-loop
-unfolding clearedAt
-loop-holds c = (omega arith, refl, refl)
+part-clear32-start : tie.Need-part-clear32-start
+part-clear32-start c = omega arith
 
-add-w : tie.Need-add-w Inv-loop μ-loop
-add-w c = omega arith
+part-clear32-end : tie.Need-part-clear32-end
+part-clear32-end c = search needs
 
-mul-w : tie.Need-mul-w Inv-loop μ-loop
-mul-w c = omega arith
+clear32-requires : tie.Need-clear32-requires
+clear32-requires c κs = tt
 
-slice-write-w : tie.Need-slice-write-w Inv-loop μ-loop
-slice-write-w c = omega arith
+same-length : tie.Need-same-length
+same-length c = search needs
 
-add-k : tie.Need-add-k Inv-loop μ-loop
-add-k c = omega arith
-
-loop-less : tie.Need-loop-less Inv-loop μ-loop
-loop-less c = omega arith
-
-loop-again : tie.Need-loop-again Inv-loop μ-loop
-loop-again c =
-    let at = c .before in
-    let a = at .before .args in
-    (omega arith, simp length-set (at .loop .inv .1), turn (now (a .w)) (at .loop .w) (a .p) (at .loop .k) (at .loop .inv .2))
-
-same-length : tie.Need-same-length Inv-loop μ-loop
-same-length c = c .before .loop .inv .1
-
-returns : tie.Need-returns Inv-loop μ-loop
+returns : tie.Need-returns
 returns c =
-    let a = c .before .before .args in
-    let e : c .before .loop .k ≡ a .m = omega arith in
-    c .before .loop .inv .2 ∙ ap (clearedAt (now (a .w)) (a .p)) e
+    let o = c .before .before .before .before .before in
+    cleared-within (o .args .p) (o .args .m) (now (o .args .w)) (o .pre) (c .before .before .clear32 .ensures)
+    ∙ cleared-whole (now (o .args .w)) (o .args .p) (o .args .m) (o .pre)
 
 pub clear-spec : {M : Type 1} → statement M
 clear-spec =
     tie.close
     (tie.spec
-    Inv-loop
-    μ-loop
-    loop-holds
-    add-w
-    mul-w
-    slice-write-w
-    add-k
-    loop-less
-    loop-again
+    add-clear32
+    mul-clear32
+    sub-clear32
+    part-clear32-start
+    part-clear32-end
+    clear32-requires
     same-length
     returns)
