@@ -94,6 +94,20 @@ def table():
     return new
 
 
+# lemmas that were spelled so before already, and whose definition was in camel case: old name, new name, the files that declare them or take them
+SPELLED = ["one_more", "held_then", "turned_by", "read_told", "too_many", "with_part", "left_out", "no_step"]
+
+
+def spelled_before(text, path):
+    """The lemmas of SPELLED that this file declares, or takes from a file of proofs/."""
+    got = set()
+    if "/proofs/" in path:
+        got |= {m.group(1) for m in re.finditer(r"^\s*(?:pub )?(" + "|".join(SPELLED) + r") :", text, re.M)}
+        for m in re.finditer(r"^use Rattle\.\w+\.proofs\.[\w.]*\.\{([^}]*)\}", text, re.M):
+            got |= {x.strip() for x in m.group(1).split(",")} & set(SPELLED)
+    return {n: n + LEMMA for n in got}
+
+
 def turned(text, new, keep):
     def one(m):
         w = m.group(0)
@@ -165,7 +179,7 @@ def main():
     for p, how in jobs:
         with open(p, encoding="utf-8") as f:
             t = f.read()
-        u = how(t, new)
+        u = how(t, new | spelled_before(t, p))
         if u != t:
             with open(p, "w", encoding="utf-8") as f:
                 f.write(u)

@@ -9,7 +9,7 @@ use Rattle.numbers.specs.declared.Failure.{Failure}
 use Rattle.numbers.specs.declared.Went.{Went}
 use Rattle.numbers.specs.declared.Went.TheVariants.{Well, Bad}
 use Rattle.numbers.proofs.Walking.{then_failed, then_went}
-use Rattle.numbers.proofs.Parted.{part_from, with_part, part_from_lem, with_part}
+use Rattle.numbers.proofs.Parted.{part_from, with_part, part_from_lem, with_part_lem}
 use Rattle.additions.specs.Additions.{on_part, gradient_added, lower_triangle, block_added, end_added, cross_added, ends_added}
 
 -- what a call said, by what was told of it
@@ -21,7 +21,7 @@ lent_part : (f : List Float → Went × List Float) (at : ℕ) (w : List Float) 
     → (r, ys) ≡ f (part_from at w) → r ≡ s → on_part at f w ≡ (s, with_part at w ys)
 lent_part f at w {r} {s} {ys} e q =
     let p : f (drop at w) ≡ (s, ys) = sym (e ∙ ap f (part_from_lem at w)) ∙ ap (λ (x : Went). (x, ys)) q in
-    ap (λ (x : Went × List Float). (x.0, take at w ++ x.1)) p ∙ ap (λ (y : List Float). (s, y)) (sym (with_part at w ys))
+    ap (λ (x : Went × List Float). (x.0, take at w ++ x.1)) p ∙ ap (λ (y : List Float). (s, y)) (sym (with_part_lem at w ys))
 
 -- a free end whose gradient could not be added, and one whose gradient could
 module _ (n dof b : ℕ) (j : List (List Float)) (r w : List Float) where

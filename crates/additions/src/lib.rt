@@ -1,7 +1,8 @@
 // What an edge adds to the gradient and to the lower triangle of the Hessian, in the work of n unknowns.
 // The system stands in solve's layout: H(i,j), j ≤ i, at j n + i; the gradient at n n + n + i.
+#![tactic(auto)]
+
 ghost use Rattle.std.specs.Prelude.{◌≡◌, ◌&&◌, ◌+◌, ◌*◌, ◌<◌, ◌≤◌, length};
-ghost use Rattle.numbers.specs.Notation.{was, became};
 ghost use Rattle.numbers.specs.Walks.{only};
 ghost use Rattle.profile.specs.Layout.{need};
 ghost use Rattle.additions.specs.Additions.{fits, dot_of, dot_with, add_to, gradient_added, lower_triangle, entry_added, row_added, block_added};
@@ -12,7 +13,7 @@ use numbers::Went;
 // Column i of a times column j of b: six products in residual order, from +0.
 fn dot(a: &[[f32; 6]; 6], i: usize, b: &[[f32; 6]; 6], j: usize) -> f32
     requires { (i < 6) × (j < 6) }
-    ensures { result ≡ dot_of (was a) i (was b) j }
+    ensures { result ≡ dot_of a.now i b.now j }
 {
     let mut s: f32 = 0.0;
     for k in 0..6usize {
@@ -24,7 +25,7 @@ fn dot(a: &[[f32; 6]; 6], i: usize, b: &[[f32; 6]; 6], j: usize) -> f32
 // Column i of a times a residual.
 fn dot_with(a: &[[f32; 6]; 6], i: usize, r: &[f32; 6]) -> f32
     requires { i < 6 }
-    ensures { result ≡ dot_with (was a) i (was r) }
+    ensures { result ≡ dot_with a.now i r.now }
 {
     let mut s: f32 = 0.0;
     for k in 0..6usize {
@@ -36,7 +37,7 @@ fn dot_with(a: &[[f32; 6]; 6], i: usize, r: &[f32; 6]) -> f32
 // v is added to the number at a place, which must be finite then.
 fn add_to(w: &mut [f32], at: usize, v: f32) -> Went
     requires { at < length w.old }
-    ensures { (result, became w) ≡ add_to (was w) at v }
+    ensures { (result, w.new) ≡ add_to w.old at v }
 {
     let s = w[at] + v;
     w[at] = s;
@@ -46,7 +47,7 @@ fn add_to(w: &mut [f32], at: usize, v: f32) -> Went
 // A pose's gradient, in the part of the work that starts at its block.
 fn accumulate_gradient(part: &mut [f32], dof: usize, j: &[[f32; 6]; 6], r: &[f32; 6]) -> Went
     requires { (dof ≤ 6) × (dof ≤ length part.old) }
-    ensures { (result, became part) ≡ gradient_added dof (was j) (was r) (was part) }
+    ensures { (result, part.new) ≡ gradient_added dof j.now r.now part.old }
 {
     for c in 0..dof {
         let v = dot_with(j, c, r);
@@ -69,7 +70,7 @@ fn add_entry(
     c: usize,
 ) -> Went
     requires { (row < n) × (col < n) × (need n ≤ length w.old) × (r < 6) × (c < 6) }
-    ensures { (result, became w) ≡ entry_added lower_triangle n row col (was jr) r (was jc) c (was w) }
+    ensures { (result, w.new) ≡ entry_added lower_triangle n row col jr.now r jc.now c w.old }
 {
     if row < col {
         return Went::Well;
@@ -90,7 +91,7 @@ fn accumulate_row(
     r: usize,
 ) -> Went
     requires { (rb * dof + dof ≤ n) × (cb * dof + dof ≤ n) × (need n ≤ length w.old) × (dof ≤ 6) × (r < dof) }
-    ensures { (result, became w) ≡ row_added lower_triangle n dof rb cb (was jr) (was jc) r (was w) }
+    ensures { (result, w.new) ≡ row_added lower_triangle n dof rb cb jr.now jc.now r w.old }
 {
     for c in 0..dof {
         if let Went::Bad(why) = add_entry(w, n, rb * dof + r, cb * dof + c, jr, r, jc, c) {
@@ -111,7 +112,7 @@ fn accumulate_hessian(
     jc: &[[f32; 6]; 6],
 ) -> Went
     requires { (rb * dof + dof ≤ n) × (cb * dof + dof ≤ n) × (need n ≤ length w.old) × (dof ≤ 6) }
-    ensures { (result, became w) ≡ block_added lower_triangle n dof rb cb (was jr) (was jc) (was w) }
+    ensures { (result, w.new) ≡ block_added lower_triangle n dof rb cb jr.now jc.now w.old }
 {
     for r in 0..dof {
         if let Went::Bad(why) = accumulate_row(w, n, dof, rb, cb, jr, jc, r) {
@@ -147,7 +148,7 @@ fn end_within(
     r: &[f32; 6],
 ) -> Went
     requires { (b * dof + dof ≤ n) × (need n ≤ length w.old) × (dof ≤ 6) }
-    ensures { (result, became w) ≡ end_added lower_triangle n dof b (was j) (was r) (was w) }
+    ensures { (result, w.new) ≡ end_added lower_triangle n dof b j.now r.now w.old }
 {
     let at = n * n + n + b * dof;
     if let Went::Bad(why) = accumulate_gradient(&mut w[at..], dof, j, r) {
@@ -165,7 +166,7 @@ pub fn add_end(
     j: &[[f32; 6]; 6],
     r: &[f32; 6],
 ) -> Went
-    ensures { (result, became w) ≡ only (fits n dof b (length (was w))) (end_added lower_triangle n dof b (was j) (was r)) (was w) }
+    ensures { (result, w.new) ≡ only (fits n dof b (length w.old)) (end_added lower_triangle n dof b j.now r.now) w.old }
 {
     if !block_fits(w.len(), n, dof, b) {
         return Went::Well;
@@ -184,7 +185,7 @@ fn add_cross(
     jb: &[[f32; 6]; 6],
 ) -> Went
     requires { (ba * dof + dof ≤ n) × (bb * dof + dof ≤ n) × (need n ≤ length w.old) × (dof ≤ 6) }
-    ensures { (result, became w) ≡ cross_added lower_triangle n dof ba bb (was ja) (was jb) (was w) }
+    ensures { (result, w.new) ≡ cross_added lower_triangle n dof ba bb ja.now jb.now w.old }
 {
     if ba < bb {
         return accumulate_hessian(w, n, dof, bb, ba, jb, ja);
@@ -203,8 +204,8 @@ pub fn add_ends(
     jb: &[[f32; 6]; 6],
     r: &[f32; 6],
 ) -> Went
-    ensures { (result, became w) ≡ only (fits n dof i (length (was w)) && fits n dof k (length (was w)))
-        (ends_added lower_triangle n dof i k (was ja) (was jb) (was r)) (was w) }
+    ensures { (result, w.new) ≡ only (fits n dof i (length w.old) && fits n dof k (length w.old))
+        (ends_added lower_triangle n dof i k ja.now jb.now r.now) w.old }
 {
     if !block_fits(w.len(), n, dof, i) {
         return Went::Well;

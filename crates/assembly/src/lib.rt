@@ -1,7 +1,8 @@
 // Assembly: the gradient and the lower triangle of the Hessian of the active edges (build_normal_system_with_mapping).
 // The system of n unknowns stands in solve's layout: H(i,j), j ≤ i, at j n + i; the gradient at n n + n + i.
+#![tactic(auto)]
+
 ghost use Rattle.std.specs.Prelude.{◌≡◌, ◌+◌, ◌*◌, ◌/◌, ◌^◌, ◌<◌, ◌≤◌, length};
-ghost use Rattle.numbers.specs.Notation.{was, became};
 ghost use Rattle.numbers.specs.Walks.{each};
 ghost use Rattle.profile.specs.Layout.{need};
 ghost use Rattle.additions.specs.Additions.{lower_triangle};
@@ -23,7 +24,7 @@ use probes::{Probing, Stance};
 use residual::{EdgeEndpoint, Linked};
 
 // Assembled; or the first bad edge among all edges, and why; or the work is too short.
-#[derive(Drop)]
+#[derive(Clone, Copy)]
 pub enum Assembled {
     Done,
     Bad { edge: usize, why: Failure },
@@ -31,7 +32,7 @@ pub enum Assembled {
 }
 
 // What is solved for: n is DOF × free.
-#[derive(Drop)]
+#[derive(Clone, Copy)]
 struct Shape {
     manifold: Manifold,
     free: u32,
@@ -42,7 +43,7 @@ struct Shape {
 
 fn fill_axis(known: &mut [f32], stance: Stance, x: usize, c: usize)
     requires { (x < 256) × (c < 6) × (length known.old ≡ 26624) }
-    ensures { Axis (probe_by stance) x c (was known) (became known) }
+    ensures { Axis (probe_by stance) x c known.old known.new }
 {
     let probes = probes::probes_at(stance, c);
     let ahead = probes.ahead;
@@ -53,7 +54,7 @@ fn fill_axis(known: &mut [f32], stance: Stance, x: usize, c: usize)
 
 fn fill_probes(known: &mut [f32], stance: Stance, dof: usize, x: usize)
     requires { (x < 256) × (dof ≤ 6) × (length known.old ≡ 26624) }
-    ensures { Probed (probe_by stance) x dof (was known) (became known) }
+    ensures { Probed (probe_by stance) x dof known.old known.new }
 {
     for c in 0..dof {
         fill_axis(known, stance, x, c);
@@ -63,7 +64,7 @@ fn fill_probes(known: &mut [f32], stance: Stance, dof: usize, x: usize)
 // The probes of a pose that is not free are not asked for.
 fn fill_pose(known: &mut [f32], m: Manifold, probing: Probing, poses: &[f64], slot: Slot, x: usize)
     requires { (x < 256) × (probing ≡ probing_of m) × (length known.old ≡ 26624) × Based poses.now known.old (known_poses (length poses.now)) }
-    ensures { Posed slot (probes_of m (pose_at (was poses) x)) x (dof_of m) (was known) (became known) }
+    ensures { Posed slot (probes_of m (pose_at poses.now x)) x (dof_of m) known.old known.new }
 {
     match slot {
         Slot::Fixed => {}
@@ -77,7 +78,7 @@ fn fill_pose(known: &mut [f32], m: Manifold, probing: Probing, poses: &[f64], sl
 
 fn fill(known: &mut [f32], m: Manifold, poses: &[f64], blocks: &[u32; 256], free: u32)
     requires { length known.old ≡ 26624 }
-    ensures { Ready m (was poses) (slot_in (was blocks) free) (became known) 256 }
+    ensures { Ready m poses.now (slot_in blocks.now free) known.new 256 }
 {
     costs::fill_bases(known, poses);
     let probing = probes::probing_of(m);
@@ -92,7 +93,7 @@ fn fill(known: &mut [f32], m: Manifold, poses: &[f64], blocks: &[u32; 256], free
 // Edge k between poses a and b, with its residual.
 fn link(known: &[f32], poses: &[f64], edges: &[f32], a: usize, b: usize, k: usize) -> Linked
     requires { Based poses.now known.now (known_poses (length poses.now)) }
-    ensures { result ≡ linked_of (checked_transform (pose_at (was poses) a)) (checked_transform (pose_at (was poses) b)) (edge_at (was edges) k) }
+    ensures { result ≡ linked_of (checked_transform (pose_at poses.now a)) (checked_transform (pose_at poses.now b)) (edge_at edges.now k) }
 {
     costs::linked_at(known, costs::known_poses(poses), poses, edges, a, b, k)
 }
@@ -110,7 +111,7 @@ fn add_one(
 ) -> Went
     requires { (block * dof_of m + dof_of m ≤ n) × (x < 256) × (length known.now ≡ 26624) × SharesTurn (stowed_probes known.now x)
         × (need n ≤ length w.old) }
-    ensures { (result, became w) ≡ one_in (dof_of m) n (stowed_probes (was known) x) linked end block (was w) }
+    ensures { (result, w.new) ≡ one_in (dof_of m) n (stowed_probes known.now x) linked end block w.old }
 {
     match linked {
         Linked::Bad(why) => Went::Bad(why),
@@ -140,7 +141,7 @@ fn add_both(
 ) -> Went
     requires { (i * dof_of m + dof_of m ≤ n) × (k * dof_of m + dof_of m ≤ n) × (a < 256) × (b < 256) × (length known.now ≡ 26624)
         × SharesTurn (stowed_probes known.now a) × SharesTurn (stowed_probes known.now b) × (need n ≤ length w.old) }
-    ensures { (result, became w) ≡ both_in (dof_of m) n (stowed_probes (was known) a) (stowed_probes (was known) b) linked i k (was w) }
+    ensures { (result, w.new) ≡ both_in (dof_of m) n (stowed_probes known.now a) (stowed_probes known.now b) linked i k w.old }
 {
     match linked {
         Linked::Bad(why) => Went::Bad(why),
@@ -186,8 +187,8 @@ fn add_edge(
     k: usize,
 ) -> Went
     requires { Shaped shape poses.now blocks.now known.now × (need shape.n ≤ length w.old) × (k < 2 ^ 62) }
-    ensures { (result, became w) ≡ edge_step lower_triangle shape.manifold shape.n
-        (lent_links (was ends) (was edges) (was blocks) shape.free) (pose_at (was poses)) k (was w) }
+    ensures { (result, w.new) ≡ edge_step lower_triangle shape.manifold shape.n
+        (lent_links ends.now edges.now blocks.now shape.free) (pose_at poses.now) k w.old }
 {
     let m = shape.manifold;
     let a = numbers::index_at(ends, k * 2);
@@ -223,8 +224,8 @@ fn add_edges(
     blocks: &[u32; 256],
 ) -> Assembled
     requires { Shaped shape poses.now blocks.now known.now × (need shape.n ≤ length w.old) }
-    ensures { (result, became w) ≡ assembled_from (each (edge_step lower_triangle shape.manifold shape.n
-        (lent_links (was ends) (was edges) (was blocks) shape.free) (pose_at (was poses))) (length (was ends) / 2) (was w)) }
+    ensures { (result, w.new) ≡ assembled_from (each (edge_step lower_triangle shape.manifold shape.n
+        (lent_links ends.now edges.now blocks.now shape.free) (pose_at poses.now)) (length ends.now / 2) w.old) }
 {
     for k in 0..ends.len() / 2 {
         if let Went::Bad(why) = add_edge(w, shape, known, poses, ends, edges, blocks, k) {
@@ -245,8 +246,8 @@ fn add_all(
 ) -> Assembled
     requires { (shape.n ≡ dof_of shape.manifold * shape.free) × (shape.free ≤ 4294967295) × (length blocks.now ≡ 256)
         × (need shape.n ≤ length w.old) }
-    ensures { (result, became w) ≡ assembled_from (each (edge_step lower_triangle shape.manifold shape.n
-        (lent_links (was ends) (was edges) (was blocks) shape.free) (pose_at (was poses))) (length (was ends) / 2) (was w)) }
+    ensures { (result, w.new) ≡ assembled_from (each (edge_step lower_triangle shape.manifold shape.n
+        (lent_links ends.now edges.now blocks.now shape.free) (pose_at poses.now)) (length ends.now / 2) w.old) }
 {
     let m = shape.manifold;
     let mut known = [0.0f32; 26624];
@@ -256,7 +257,7 @@ fn add_all(
 
 // The blocks lent are 256, which the code after it relies on: an array's length is known where it is taken as a slice.
 fn count_blocks(blocks: &[u32; 256]) -> usize
-    ensures { length (was blocks) ≡ 256 }
+    ensures { length blocks.now ≡ 256 }
 {
     let all = &blocks[..];
     all.len()
@@ -272,7 +273,7 @@ pub fn build_normal_system_with_mapping(
     blocks: &[u32; 256],
     free: u32,
 ) -> Assembled
-    ensures { (result, became w) ≡ assembled_of m (dof_of m * free) (lent_links (was ends) (was edges) (was blocks) free) (pose_at (was poses)) (was w) }
+    ensures { (result, w.new) ≡ assembled_of m (dof_of m * free) (lent_links ends.now edges.now blocks.now free) (pose_at poses.now) w.old }
 {
     let n = graph::dof(m) * (free as usize);
     if !profile::has_room(w.len(), n) {

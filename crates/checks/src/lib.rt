@@ -1,7 +1,9 @@
 // The graph checks: refusals 1 to 19 of document 01 and 26 of document 02, free poses and their blocks (validate_optimizer_inputs and validate_pose_graph
 // of sparse_pgo.rs). Everything is lent shared, so a refusal can change nothing.
+#![tactic(auto)]
+
 ghost use Rattle.std.specs.Prelude.{◌≡◌, [], ℕ, ◌/◌, ◌^◌, ◌<◌, ltb, length, set, take};
-ghost use Rattle.numbers.specs.Notation.{if_then, was, became};
+ghost use Rattle.numbers.specs.Notation.{if_then};
 ghost use Rattle.numbers.specs.Refusals.{or_else, says, lowest, verdict};
 ghost use Rattle.numbers.specs.Walks.{some, count, table};
 ghost use Rattle.numbers.specs.declared.Verdict.TheVariants.{Fine};
@@ -17,21 +19,21 @@ use graph::Manifold;
 use numbers::{Refusal, Verdict};
 use rows::{Room, Settings};
 
-#[derive(Drop)]
+#[derive(Clone, Copy)]
 pub struct Counts {
     pub poses: usize,
     pub edges: usize,
     pub free: u32,
 }
 
-#[derive(Drop)]
+#[derive(Clone, Copy)]
 pub enum Checked {
     Fit(Counts),
     Turned(Refusal),
 }
 
 // The answer, and the block of every pose: 4294967295 for one that is not free.
-#[derive(Drop)]
+#[derive(Clone, Copy)]
 pub struct Checks {
     pub answer: Checked,
     pub blocks: [u32; 256],
@@ -41,14 +43,14 @@ pub struct Checks {
 
 fn end_a(ends: &[u32], k: usize) -> usize
     requires { k < 2 ^ 62 }
-    ensures { result ≡ end_a (was ends) k }
+    ensures { result ≡ end_a ends.now k }
 {
     numbers::index_at(ends, k * 2)
 }
 
 fn end_b(ends: &[u32], k: usize) -> usize
     requires { k < 2 ^ 62 }
-    ensures { result ≡ end_b (was ends) k }
+    ensures { result ≡ end_b ends.now k }
 {
     numbers::index_at(ends, k * 2 + 1)
 }
@@ -64,7 +66,7 @@ fn shape_rows(
     fixed: &[u32],
     room: Room,
 ) -> Verdict
-    ensures { result ≡ verdict (take 5 (graph_rows (lent manifold (was poses) (was ends) (was edges) (was fixed) unset room))) }
+    ensures { result ≡ verdict (take 5 (graph_rows (lent manifold poses.now ends.now edges.now fixed.now unset room))) }
 {
     let v = rows::row_1(Verdict::Fine, manifold);
     let v = rows::row_2(v, poses.len(), ends.len(), edges.len(), room.out);
@@ -76,7 +78,7 @@ fn shape_rows(
 // ---- rows 6 to 11: pose by pose, edge by edge, entry by entry
 
 fn pose_6(poses: &[f64], x: usize) -> Verdict
-    ensures { result ≡ says (pose_faults (lent_graph (was poses) [] [] [])) x }
+    ensures { result ≡ says (pose_faults (lent_graph poses.now [] [] [])) x }
 {
     numbers::asked(
         Verdict::Fine,
@@ -88,7 +90,7 @@ fn pose_6(poses: &[f64], x: usize) -> Verdict
 
 // Row 6.
 fn pose_rows(v: Verdict, poses: &[f64]) -> Verdict
-    ensures { result ≡ or_else v (lowest (pose_faults (lent_graph (was poses) [] [] [])) (length (was poses) / 12)) }
+    ensures { result ≡ or_else v (lowest (pose_faults (lent_graph poses.now [] [] [])) (length poses.now / 12)) }
 {
     let Verdict::Fine = v else {
         return v;
@@ -107,7 +109,7 @@ fn pose_rows(v: Verdict, poses: &[f64]) -> Verdict
 
 fn edge_says(poses: &[f64], ends: &[u32], edges: &[f32], k: usize) -> Verdict
     requires { k < 2 ^ 62 }
-    ensures { result ≡ says (edge_faults (lent_graph (was poses) (was ends) (was edges) [])) k }
+    ensures { result ≡ says (edge_faults (lent_graph poses.now ends.now edges.now [])) k }
 {
     let n = poses.len() / 12;
     let a = end_a(ends, k);
@@ -123,7 +125,7 @@ fn edge_says(poses: &[f64], ends: &[u32], edges: &[f32], k: usize) -> Verdict
 
 // Rows 7 to 10.
 fn edge_rows(v: Verdict, poses: &[f64], ends: &[u32], edges: &[f32]) -> Verdict
-    ensures { result ≡ or_else v (lowest (edge_faults (lent_graph (was poses) (was ends) (was edges) [])) (length (was ends) / 2)) }
+    ensures { result ≡ or_else v (lowest (edge_faults (lent_graph poses.now ends.now edges.now [])) (length ends.now / 2)) }
 {
     let Verdict::Fine = v else {
         return v;
@@ -142,7 +144,7 @@ fn edge_rows(v: Verdict, poses: &[f64], ends: &[u32], edges: &[f32]) -> Verdict
 
 // Row 11.
 fn fixed_rows(v: Verdict, n: usize, fixed: &[u32]) -> Verdict
-    ensures { result ≡ or_else v (lowest (fixed_faults n (was fixed)) (length (was fixed))) }
+    ensures { result ≡ or_else v (lowest (fixed_faults n fixed.now) (length fixed.now)) }
 {
     let Verdict::Fine = v else {
         return v;
@@ -167,7 +169,7 @@ fn list_rows(
     fixed: &[u32],
     room: Room,
 ) -> Verdict
-    ensures { result ≡ verdict (take 8 (graph_rows (lent manifold (was poses) (was ends) (was edges) (was fixed) unset room))) }
+    ensures { result ≡ verdict (take 8 (graph_rows (lent manifold poses.now ends.now edges.now fixed.now unset room))) }
 {
     let v = shape_rows(manifold, poses, ends, edges, fixed, room);
     let v = pose_rows(v, poses);
@@ -179,7 +181,7 @@ fn list_rows(
 
 // Sets the mark of pose x; a number past the array has none.
 fn mark(marks: &mut [bool; 256], x: usize, value: bool)
-    ensures { became marks ≡ if_then (ltb x 256) (set (was marks) x value) (was marks) }
+    ensures { marks.new ≡ if_then (ltb x 256) (set marks.old x value) marks.old }
 {
     if x < 256 {
         marks[x] = value;
@@ -188,7 +190,7 @@ fn mark(marks: &mut [bool; 256], x: usize, value: bool)
 
 // The poses that some edge names.
 fn named(ends: &[u32]) -> [bool; 256]
-    ensures { result ≡ table (λ x. some (touches (lent_graph [] (was ends) [] []) x) (length (was ends) / 2)) 256 }
+    ensures { result ≡ table (λ x. some (touches (lent_graph [] ends.now [] []) x) (length ends.now / 2)) 256 }
 {
     let mut marks = [false; 256];
     let n = ends.len() / 2;
@@ -203,7 +205,7 @@ fn named(ends: &[u32]) -> [bool; 256]
 
 // Those of them that are not fixed.
 fn free_poses(ends: &[u32], fixed: &[u32]) -> [bool; 256]
-    ensures { result ≡ table (is_free (lent_graph [] (was ends) [] (was fixed))) 256 }
+    ensures { result ≡ table (is_free (lent_graph [] ends.now [] fixed.now)) 256 }
 {
     let mut marks = named(ends);
     let mut k = 0;
@@ -215,7 +217,7 @@ fn free_poses(ends: &[u32], fixed: &[u32]) -> [bool; 256]
 }
 
 // The block of every pose, and how many are free.
-#[derive(Drop)]
+#[derive(Clone, Copy)]
 struct Blocks {
     at: [u32; 256],
     free: u32,
@@ -223,8 +225,8 @@ struct Blocks {
 
 // Free poses get the blocks 0, 1, 2 in pose order.
 fn numbered(ends: &[u32], fixed: &[u32]) -> Blocks
-    ensures { (result.at ≡ table (block_number (lent_graph [] (was ends) [] (was fixed))) 256)
-        × (result.free ≡ count (is_free (lent_graph [] (was ends) [] (was fixed))) 256) }
+    ensures { (result.at ≡ table (block_number (lent_graph [] ends.now [] fixed.now)) 256)
+        × (result.free ≡ count (is_free (lent_graph [] ends.now [] fixed.now)) 256) }
 {
     let marks = free_poses(ends, fixed);
     let mut at = [4294967295u32; 256];
@@ -244,7 +246,7 @@ fn numbered(ends: &[u32], fixed: &[u32]) -> Blocks
 
 // A weight that is not zero; -0 is zero too.
 fn has_weight(edges: &[f32], k: usize) -> bool
-    ensures { result ≡ weighs (lent_graph [] [] (was edges) []) k }
+    ensures { result ≡ weighs (lent_graph [] [] edges.now []) k }
 {
     let e = graph::edge_at(edges, k);
     e.weight != 0.0
@@ -252,7 +254,7 @@ fn has_weight(edges: &[f32], k: usize) -> bool
 
 // Every pose of one label gets another.
 fn relabel(labels: &mut [u32], old: u32, new: u32)
-    ensures { (x : ℕ) → x < length (was labels) → label_of (became labels) x ≡ renamed old new (label_of (was labels) x) }
+    ensures { (x : ℕ) → x < length labels.old → label_of labels.new x ≡ renamed old new (label_of labels.old x) }
 {
     let mut x = 0;
     while x < labels.len() {
@@ -265,7 +267,7 @@ fn relabel(labels: &mut [u32], old: u32, new: u32)
 
 // Poses a and b, and all with their labels, get the larger of the two. A label is read as a block is: none past the end.
 fn merge_labels(labels: &mut [u32], a: usize, b: usize)
-    ensures { MergesTwo a b (label_of (was labels)) (label_of (became labels)) }
+    ensures { MergesTwo a b (label_of labels.old) (label_of labels.new) }
 {
     let p = graph::block_at(labels, a);
     let q = graph::block_at(labels, b);
@@ -280,7 +282,7 @@ fn merge_labels(labels: &mut [u32], a: usize, b: usize)
 
 // The labels of row 26: those of the blocks, and then, where nothing was said before, one for the ends of every edge of non-zero weight.
 fn labelled(v: Verdict, blocks: [u32; 256], ends: &[u32], edges: &[f32]) -> [u32; 256]
-    ensures { v ≡ Fine → Labelled (was ends) (was edges) blocks result }
+    ensures { v ≡ Fine → Labelled ends.now edges.now blocks result }
 {
     let Verdict::Fine = v else {
         return blocks;
@@ -298,7 +300,7 @@ fn labelled(v: Verdict, blocks: [u32; 256], ends: &[u32], edges: &[f32]) -> [u32
 }
 
 fn pose_26(labels: &[u32; 256], x: usize) -> Verdict
-    ensures { result ≡ says (label_faults (was labels)) x }
+    ensures { result ≡ says (label_faults labels.now) x }
 {
     let l = graph::block_at(labels, x);
     numbers::asked(Verdict::Fine, l != 4294967295, 26, x)
@@ -306,7 +308,7 @@ fn pose_26(labels: &[u32; 256], x: usize) -> Verdict
 
 // Row 26.
 fn island_rows(v: Verdict, labels: &[u32; 256], n: usize) -> Verdict
-    ensures { result ≡ or_else v (lowest (label_faults (was labels)) n) }
+    ensures { result ≡ or_else v (lowest (label_faults labels.now) n) }
 {
     let Verdict::Fine = v else {
         return v;
@@ -342,7 +344,7 @@ pub fn validate_pose_graph(
     fixed: &[u32],
     room: Room,
 ) -> Checks
-    ensures { result ≡ graph_checks (lent manifold (was poses) (was ends) (was edges) (was fixed) unset room) }
+    ensures { result ≡ graph_checks (lent manifold poses.now ends.now edges.now fixed.now unset room) }
 {
     let b = numbered(ends, fixed);
     let free = b.free;
@@ -376,7 +378,7 @@ pub fn validate_optimizer_inputs(
     settings: Settings,
     room: Room,
 ) -> Checks
-    ensures { result ≡ checks (lent manifold (was poses) (was ends) (was edges) (was fixed) settings room) }
+    ensures { result ≡ checks (lent manifold poses.now ends.now edges.now fixed.now settings room) }
 {
     let c = validate_pose_graph(manifold, poses, ends, edges, fixed, room);
     let answer = c.answer;

@@ -1,6 +1,7 @@
 // The transforms of poses kept in cells of eight numbers, and the cost of the active edges (sparse_pgo.rs).
+#![tactic(auto)]
+
 ghost use Rattle.std.specs.Prelude.{◌≡◌, ◌+◌, ◌*◌, ◌/◌, ◌<◌, ◌≤◌, length};
-ghost use Rattle.numbers.specs.Notation.{was, became};
 ghost use Rattle.numbers.specs.Walks.{each, well, only};
 ghost use Rattle.graph.specs.Graph.{is_block, is_active};
 ghost use Rattle.graph.specs.Lent.{pose_at, edge_at, lent_links};
@@ -14,14 +15,14 @@ use pose_conversion::Converted;
 use residual::{Linked, Residual};
 
 // A cost with one edge more; or why it can't be had.
-#[derive(Drop)]
+#[derive(Clone, Copy)]
 pub enum Priced {
     Of(f32),
     Bad(Failure),
 }
 
 // The cost; or the first bad edge among all edges, and why it can't be had.
-#[derive(Drop)]
+#[derive(Clone, Copy)]
 pub enum Cost {
     Of(f32),
     Bad { edge: usize, why: Failure },
@@ -45,7 +46,7 @@ fn eight_of(x: Converted) -> [f32; 8]
 
 fn put_cell(l: &mut [f32], e: usize, x: Converted)
     requires { e * 8 + 8 ≤ length l.old }
-    ensures { became l ≡ with_cell (was l) e x }
+    ensures { l.new ≡ with_cell l.old e x }
 {
     let at = e * 8;
     slices::copy32(&eight_of(x), &mut l[at..at + 8]);
@@ -53,7 +54,7 @@ fn put_cell(l: &mut [f32], e: usize, x: Converted)
 
 // Cell e becomes x, where it is lent.
 pub fn stow(l: &mut [f32], e: usize, x: Converted)
-    ensures { became l ≡ stowing (was l) e x }
+    ensures { l.new ≡ stowing l.old e x }
 {
     if e < l.len() / 8 {
         put_cell(l, e, x);
@@ -74,14 +75,14 @@ pub fn stowed_from(cell: Edge) -> Converted
 
 // What cell e holds.
 pub fn stowed(l: &[f32], e: usize) -> Converted
-    ensures { result ≡ stowed_in (was l) e }
+    ensures { result ≡ stowed_in l.now e }
 {
     stowed_from(graph::edge_at(l, e))
 }
 
 // How many poses are lent, of the first 256.
 pub fn known_poses(poses: &[f64]) -> usize
-    ensures { result ≡ known_poses (length (was poses)) }
+    ensures { result ≡ known_poses (length poses.now) }
 {
     let count = poses.len() / 12;
     if count < 256 { count } else { 256 }
@@ -89,7 +90,7 @@ pub fn known_poses(poses: &[f64]) -> usize
 
 // The first cells become the transforms of the first poses.
 pub fn fill_bases(known: &mut [f32], poses: &[f64])
-    ensures { became known ≡ with_bases (was poses) (known_poses (length (was poses))) (was known) }
+    ensures { known.new ≡ with_bases poses.now (known_poses (length poses.now)) known.old }
 {
     for x in 0..known_poses(poses) {
         let p = graph::pose_at(poses, x);
@@ -99,7 +100,7 @@ pub fn fill_bases(known: &mut [f32], poses: &[f64])
 
 // The transform of pose x: from its cell, if there is one.
 pub fn base_at(known: &[f32], count: usize, poses: &[f64], x: usize) -> Converted
-    ensures { result ≡ base_in (was known) count (was poses) x }
+    ensures { result ≡ base_in known.now count poses.now x }
 {
     if x < count {
         return stowed(known, x);
@@ -117,7 +118,7 @@ pub fn linked_at(
     b: usize,
     k: usize,
 ) -> Linked
-    ensures { result ≡ linked_of (base_in (was known) count (was poses) a) (base_in (was known) count (was poses) b) (edge_at (was edges) k) }
+    ensures { result ≡ linked_of (base_in known.now count poses.now a) (base_in known.now count poses.now b) (edge_at edges.now k) }
 {
     let from = base_at(known, count, poses, a);
     let to = base_at(known, count, poses, b);
@@ -175,8 +176,8 @@ fn active_edge_cost(
     c: f32,
 ) -> Priced
     requires { (k < length ends.now / 2) × Based poses.now known.now count }
-    ensures { result ≡ priced_from (only (is_active (lent_links (was ends) (was edges) (was blocks) free) k)
-        (price_at (lent_links (was ends) (was edges) (was blocks) free) (pose_at (was poses)) k) c) }
+    ensures { result ≡ priced_from (only (is_active (lent_links ends.now edges.now blocks.now free) k)
+        (price_at (lent_links ends.now edges.now blocks.now free) (pose_at poses.now) k) c) }
 {
     let a = numbers::index_at(ends, k * 2);
     let b = numbers::index_at(ends, k * 2 + 1);
@@ -202,7 +203,7 @@ fn cost_over(
     free: u32,
 ) -> Cost
     requires { Based poses.now known.now count }
-    ensures { result ≡ cost_of (lent_links (was ends) (was edges) (was blocks) free) (pose_at (was poses)) }
+    ensures { result ≡ cost_of (lent_links ends.now edges.now blocks.now free) (pose_at poses.now) }
 {
     let all = ends.len() / 2;
     let mut c: f32 = 0.0;
@@ -225,7 +226,7 @@ pub fn active_total_squared_residual_cost(
     blocks: &[u32; 256],
     free: u32,
 ) -> Cost
-    ensures { result ≡ cost_of (lent_links (was ends) (was edges) (was blocks) free) (pose_at (was poses)) }
+    ensures { result ≡ cost_of (lent_links ends.now edges.now blocks.now free) (pose_at poses.now) }
 {
     let mut known = [0.0f32; 2048];
     fill_bases(&mut known, poses);

@@ -25,9 +25,9 @@ use Rattle.decisions.proofs.Levels.{At, raise_at, raise_ground, lower_at, lower_
 use Rattle.decisions.proofs.Ways.{Both, Past, Cases, turn_cases}
 
 -- a count that has not come to the largest u32
-one_more : (n : ℕ) → n < 4294967295 → one_more n ≡ n + 1
+one_more_lem : (n : ℕ) → n < 4294967295 → one_more n ≡ n + 1
 unfolding one_more
-one_more n l = sym (left n (ne_eqb n 4294967295 (λ e. omega arith)) refl)
+one_more_lem n l = sym (left n (ne_eqb n 4294967295 (λ e. omega arith)) refl)
 
 -- ---- a level as a difference of counts: r raises and a lowerings
 raise_by : (r a n : ℕ) (d : Float) → At (r - a) d → lt lambda_max (increased d) ≡ false → n ≡ r + 1 - a → At n (increased d)
@@ -78,16 +78,16 @@ module _ (limit : ℕ) (first : Float) (s : State) (h : Live limit first s) wher
 
   -- no count is near the largest u32
   pub more_accepted : one_more s.accepted ≡ s.accepted + 1
-  more_accepted = one_more s.accepted (omega (arith, h.limited, h.trials))
+  more_accepted = one_more_lem s.accepted (omega (arith, h.limited, h.trials))
 
   pub more_rejected : one_more s.rejected ≡ s.rejected + 1
-  more_rejected = one_more s.rejected (omega (arith, h.limited, h.trials))
+  more_rejected = one_more_lem s.rejected (omega (arith, h.limited, h.trials))
 
   pub more_failed : one_more s.failed ≡ s.failed + 1
-  more_failed = one_more s.failed (omega (arith, h.limited, h.trials, h.level.low))
+  more_failed = one_more_lem s.failed (omega (arith, h.limited, h.trials, h.level.low))
 
   pub more_solves : one_more s.solves ≡ s.solves + 1
-  more_solves = one_more s.solves (omega (arith, h.limited, h.trials, h.level.low, h.tried))
+  more_solves = one_more_lem s.solves (omega (arith, h.limited, h.trials, h.level.low, h.tried))
 
   -- the cost after a trial is accepted
   lowers : (new : Float) → lt new s.cost ≡ true → lt new first ≡ true

@@ -1,5 +1,7 @@
 // The decisions of the Levenberg-Marquardt run, apart from its numerics (document 01, "The solve and the run").
 // Each contract names its definition in specs/.
+#![tactic(auto)]
+
 ghost use Rattle.std.specs.Prelude.{◌≡◌, leb};
 ghost use Rattle.decisions.specs.Damping.{increased, decreased};
 ghost use Rattle.decisions.specs.Run.{judged, heard, relative, begun, iterations, one_more, failing, accepting, rejecting, solved};
@@ -14,7 +16,7 @@ const LAMBDA_MIN: f32 = 1e-10;
 pub const LAMBDA_MAX: f32 = 1e10;
 
 // What the run carries by value. Its poses and its system stand in lent work.
-#[derive(Drop)]
+#[derive(Clone, Copy)]
 pub struct State {
     pub accepted: u32,
     pub rejected: u32,
@@ -27,28 +29,28 @@ pub struct State {
 }
 
 // Why a trial has no cost: a retraction failed, tested first; or the cost can't be had.
-#[derive(Drop)]
+#[derive(Clone, Copy)]
 pub enum Numerical {
     Retraction,
     Unpriced,
 }
 
 // Why a trial was rejected.
-#[derive(Drop)]
+#[derive(Clone, Copy)]
 pub enum Reason {
     Cost,
     Numerical(Numerical),
 }
 
 // A trial's answer: accepted with its new cost, or rejected.
-#[derive(Drop)]
+#[derive(Clone, Copy)]
 pub enum Trial {
     Accepted(f32),
     Rejected(Reason),
 }
 
 // What an assembly comes to: refused, a gradient below its tolerance, or a system to solve.
-#[derive(Drop)]
+#[derive(Clone, Copy)]
 pub enum Assembly {
     Refused(Refusal),
     Flat,
@@ -56,7 +58,7 @@ pub enum Assembly {
 }
 
 // What a solve comes to, before its trial is judged.
-#[derive(Drop)]
+#[derive(Clone, Copy)]
 pub enum Raw {
     Failed,
     Small,
@@ -64,7 +66,7 @@ pub enum Raw {
     Numerical(Numerical),
 }
 
-#[derive(Drop)]
+#[derive(Clone, Copy)]
 pub enum Outcome {
     Failed,
     Small,
@@ -72,7 +74,7 @@ pub enum Outcome {
 }
 
 // Why a run stopped. Gradient, Step and Cost have converged.
-#[derive(Drop)]
+#[derive(Clone, Copy)]
 pub enum Why {
     Budget,
     Gradient,
@@ -81,20 +83,20 @@ pub enum Why {
     Damping,
 }
 
-#[derive(Drop)]
+#[derive(Clone, Copy)]
 pub enum End {
     Stopped(Why),
     Refused(Refusal),
 }
 
 // What the top of the run says: go on to a solve, or stop.
-#[derive(Drop)]
+#[derive(Clone, Copy)]
 pub enum Gate {
     Go,
     Stop(End),
 }
 
-#[derive(Drop)]
+#[derive(Clone, Copy)]
 pub enum Next {
     On(State),
     Over(State, End),

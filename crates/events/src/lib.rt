@@ -1,6 +1,7 @@
 // The run's decisions over a prepared list of events, each an assembly's or a solve's, with no graph behind them.
+#![tactic(auto)]
+
 ghost use Rattle.std.specs.Prelude.{◌≡◌};
-ghost use Rattle.numbers.specs.Notation.{was};
 ghost use Rattle.decisions.specs.Run.{begun};
 ghost use Rattle.events.specs.Driven.{event_of, events_of, settled, after_event, driven};
 
@@ -8,7 +9,7 @@ use decisions::{Assembly, End, Next, Numerical, Raw, Why};
 use numbers::Refusal;
 
 // What a prepared list tells: how an assembly ended, or what a solve came to.
-#[derive(Drop)]
+#[derive(Clone, Copy)]
 pub enum Event {
     Assembled(Assembly),
     Solved(Raw),
@@ -85,7 +86,7 @@ pub fn drive(
     events: &[u32],
     prices: &[f32],
 ) -> Next
-    ensures { result ≡ driven limit tolerance (Next.On (begun cost damping)) (events_of (was events) (was prices)) }
+    ensures { result ≡ driven limit tolerance (Next.On (begun cost damping)) (events_of events.now prices.now) }
 {
     let mut n = Next::On(decisions::begin(cost, damping));
     let mut i = 0;

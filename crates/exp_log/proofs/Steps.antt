@@ -9,9 +9,9 @@ use Rattle.exp_log.specs.declared.Moved.TheVariants as moved
 use Rattle.exp_log.specs.ExpLog.{turning, moving}
 
 module _ {A : Type 0} {r : A} where
-  pub turned_by : {x : Turn} (next : Quat → A) (failed : A) (q : Quat) → x ≡ turn.By q → r ≡ next q → r ≡ turning x next failed
+  pub turned_by_lem : {x : Turn} (next : Quat → A) (failed : A) (q : Quat) → x ≡ turn.By q → r ≡ next q → r ≡ turning x next failed
   unfolding turning
-  turned_by next failed q p e = rw p e
+  turned_by_lem next failed q p e = rw p e
 
   pub not_turned : {x : Turn} {failed : A} (next : Quat → A) → x ≡ turn.TooFar → r ≡ failed → r ≡ turning x next failed
   unfolding turning

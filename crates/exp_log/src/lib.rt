@@ -1,4 +1,6 @@
 // exp and log of transforms, by series, all in f64; a transform or a twist is narrowed once, at the end (document 01, "Rotation arithmetic").
+#![tactic(auto)]
+
 ghost use Rattle.std.specs.Prelude.{◌≡◌};
 ghost use Rattle.exp_log.specs.ExpLog.{axis, squared, squarings, sine_series, cosine_series, turn_by, turn_of};
 ghost use Rattle.exp_log.specs.ExpLog.{small_bend, large_bend, bend, bent, moved_by, exp_of};
@@ -8,49 +10,49 @@ ghost use Rattle.exp_log.specs.LogParts.{angle_from, log_turn, log_turns, log_at
 use rotations::{Quat, Rigid, Transform, Vec3, Vec3F32};
 
 // A translation and a turn, in f32: a step, a residual.
-#[derive(Drop)]
+#[derive(Clone, Copy)]
 pub struct Twist {
     pub t: Vec3F32,
     pub r: Vec3F32,
 }
 
 // The same in f64, before it is narrowed.
-#[derive(Drop)]
+#[derive(Clone, Copy)]
 pub struct WideTwist {
     pub t: Vec3,
     pub r: Vec3,
 }
 
 // B and C of document 01.
-#[derive(Drop)]
+#[derive(Clone, Copy)]
 pub struct Bend {
     pub b: f64,
     pub c: f64,
 }
 
 // What a quaternion gives of a log: ω and D of document 01.
-#[derive(Drop)]
+#[derive(Clone, Copy)]
 pub struct LogTurn {
     pub w: Vec3,
     pub d: f64,
 }
 
 // Those of two quaternions.
-#[derive(Drop)]
+#[derive(Clone, Copy)]
 pub struct LogTurns {
     pub first: LogTurn,
     pub second: LogTurn,
 }
 
 // exp of a turn: its quaternion, or past the reach of exp.
-#[derive(Drop)]
+#[derive(Clone, Copy)]
 pub enum Turn {
     By(Quat),
     TooFar,
 }
 
 // exp of a twist: its transform, or past the reach of exp.
-#[derive(Drop)]
+#[derive(Clone, Copy)]
 pub enum Moved {
     To(Transform),
     TooFar,

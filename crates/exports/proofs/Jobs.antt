@@ -24,10 +24,10 @@ pub written_long : (v : Written) → length (written_two v) ≡ 2
 written_long (written.Bytes n) = refl
 written_long (written.Refused r) = refl
 
-pub read_told : (s : List ℕ) (l : Space) (a : List ℕ) {k : Space} {v : Read} {n : ℕ} {eight last : List ℕ}
+pub read_told_lem : (s : List ℕ) (l : Space) (a : List ℕ) {k : Space} {v : Read} {n : ℕ} {eight last : List ℕ}
     → length a ≡ 8 → (v, k) ≡ read_into s l → eight ≡ read_answer v → last ≡ copied eight a → n ≡ read_number v → (n, k, last) ≡ read_out s l a
 unfolding read_out
-read_told s l a {v = v} h e t p q =
+read_told_lem s l a {v = v} h e t p q =
     taken _ (eq-eqb _ _ h) (rw (q, copied_as (read_answer v) a t (h ∙ sym (read_long v)) p) (ap read_told e))
 
 pub written_told : (j : Job) (f a : List ℕ) {o : List ℕ} {v : Written} {n : ℕ} {two last : List ℕ}

@@ -1,7 +1,9 @@
 // The functions that a host program links: slices cross as pointer and length, numbers as themselves. A slice of another length than named gets
 // 4294967295 back, and nothing is changed; elsewhere 0 means done.
+#![tactic(auto)]
+
 ghost use Rattle.std.specs.Prelude.{◌≡◌, ◌+◌, ◌*◌, ◌<◌, eqb, length};
-ghost use Rattle.numbers.specs.Notation.{num, if_then, number_at, was, became};
+ghost use Rattle.numbers.specs.Notation.{num, if_then, number_at};
 ghost use Rattle.rounding.specs.Rounding.{narrowed};
 ghost use Rattle.roots.specs.Roots.{root32, root64};
 ghost use Rattle.numbers.specs.Refusals.{verdict};
@@ -35,7 +37,7 @@ const UNFIT: u32 = 4294967295;
 
 fn vec32_from(l: &[f32], j: usize) -> Vec3F32
     requires { j < 16 }
-    ensures { result ≡ record { x = number_at (was l) j; y = number_at (was l) (j + 1); z = number_at (was l) (j + 2) } }
+    ensures { result ≡ record { x = number_at l.now j; y = number_at l.now (j + 1); z = number_at l.now (j + 2) } }
 {
     Vec3F32 {
         x: numbers::at32(l, j),
@@ -47,13 +49,13 @@ fn vec32_from(l: &[f32], j: usize) -> Vec3F32
 // Three f32 as a vector of f64.
 fn widened_from(l: &[f32], j: usize) -> Vec3
     requires { j < 16 }
-    ensures { result ≡ vec (number_at (was l) j) (number_at (was l) (j + 1)) (number_at (was l) (j + 2)) }
+    ensures { result ≡ vec (number_at l.now j) (number_at l.now (j + 1)) (number_at l.now (j + 2)) }
 {
     pose_conversion::vec3_to_f64(vec32_from(l, j))
 }
 
 fn vec_from(l: &[f64]) -> Vec3
-    ensures { result ≡ three (was l) }
+    ensures { result ≡ three l.now }
 {
     Vec3 {
         x: numbers::at64(l, 0),
@@ -63,7 +65,7 @@ fn vec_from(l: &[f64]) -> Vec3
 }
 
 fn matrix_from(l: &[f32]) -> Mat3F32
-    ensures { result ≡ matrix_from (was l) }
+    ensures { result ≡ matrix_from l.now }
 {
     Mat3F32 {
         x: vec32_from(l, 0),
@@ -73,7 +75,7 @@ fn matrix_from(l: &[f32]) -> Mat3F32
 }
 
 fn transform_from(l: &[f32]) -> Transform
-    ensures { result ≡ transform_from (was l) }
+    ensures { result ≡ transform_from l.now }
 {
     let q = QuatF32 {
         x: numbers::at32(l, 0),
@@ -89,7 +91,7 @@ fn transform_from(l: &[f32]) -> Transform
 
 // A step as `retract` takes it: of four numbers it looks at no more than four.
 fn step_from(l: &[f32]) -> [f32; 6]
-    ensures { result ≡ first_six (was l) }
+    ensures { result ≡ first_six l.now }
 {
     let a = vec32_from(l, 0);
     let b = vec32_from(l, 3);
@@ -121,7 +123,7 @@ pub extern "C" fn pgo_sqrt64(x: f64) -> f64
 
 #[unsafe(no_mangle)]
 pub extern "C" fn pgo_quaternion_of_matrix(m: &[f32], out: &mut [f32]) -> u32
-    ensures { (result, became out) ≡ quaternion_out (was m) (was out) }
+    ensures { (result, out.new) ≡ quaternion_out m.now out.old }
 {
     if !((m.len() == 9) & (out.len() == 4)) {
         return UNFIT;
@@ -133,7 +135,7 @@ pub extern "C" fn pgo_quaternion_of_matrix(m: &[f32], out: &mut [f32]) -> u32
 
 #[unsafe(no_mangle)]
 pub extern "C" fn pgo_product(a: &[f32], b: &[f32], out: &mut [f32]) -> u32
-    ensures { (result, became out) ≡ product_out (was a) (was b) (was out) }
+    ensures { (result, out.new) ≡ product_out a.now b.now out.old }
 {
     if !((a.len() == 7) & ((b.len() == 7) & (out.len() == 7))) {
         return UNFIT;
@@ -145,7 +147,7 @@ pub extern "C" fn pgo_product(a: &[f32], b: &[f32], out: &mut [f32]) -> u32
 
 #[unsafe(no_mangle)]
 pub extern "C" fn pgo_inverse(a: &[f32], out: &mut [f32]) -> u32
-    ensures { (result, became out) ≡ inverse_out (was a) (was out) }
+    ensures { (result, out.new) ≡ inverse_out a.now out.old }
 {
     if !((a.len() == 7) & (out.len() == 7)) {
         return UNFIT;
@@ -157,7 +159,7 @@ pub extern "C" fn pgo_inverse(a: &[f32], out: &mut [f32]) -> u32
 
 #[unsafe(no_mangle)]
 pub extern "C" fn pgo_exp(delta: &[f32], out: &mut [f32]) -> u32
-    ensures { (result, became out) ≡ exp_out (was delta) (was out) }
+    ensures { (result, out.new) ≡ exp_out delta.now out.old }
 {
     if !((delta.len() == 6) & (out.len() == 7)) {
         return UNFIT;
@@ -171,7 +173,7 @@ pub extern "C" fn pgo_exp(delta: &[f32], out: &mut [f32]) -> u32
 
 #[unsafe(no_mangle)]
 pub extern "C" fn pgo_log(t: &[f32], out: &mut [f32]) -> u32
-    ensures { (result, became out) ≡ log_out (was t) (was out) }
+    ensures { (result, out.new) ≡ log_out t.now out.old }
 {
     if !((t.len() == 7) & (out.len() == 6)) {
         return UNFIT;
@@ -183,7 +185,7 @@ pub extern "C" fn pgo_log(t: &[f32], out: &mut [f32]) -> u32
 
 #[unsafe(no_mangle)]
 pub extern "C" fn pgo_retract(pose: &[f64], delta: &[f32], out: &mut [f64]) -> u32
-    ensures { (result, became out) ≡ retract_out (was pose) (was delta) (was out) }
+    ensures { (result, out.new) ≡ retract_out pose.now delta.now out.old }
 {
     if !((pose.len() == 12) & ((delta.len() == 6) & (out.len() == 12))) {
         return UNFIT;
@@ -204,7 +206,7 @@ pub extern "C" fn pgo_retract_with_gravity(
     delta: &[f32],
     out: &mut [f64],
 ) -> u32
-    ensures { (result, became out) ≡ retract_gravity_out (was g) (was pose) (was delta) (was out) }
+    ensures { (result, out.new) ≡ retract_gravity_out g.now pose.now delta.now out.old }
 {
     if !((g.len() == 3) & ((pose.len() == 12) & ((delta.len() == 4) & (out.len() == 12)))) {
         return UNFIT;
@@ -220,7 +222,7 @@ pub extern "C" fn pgo_retract_with_gravity(
 
 #[unsafe(no_mangle)]
 pub extern "C" fn pgo_residual(a: &[f64], b: &[f64], edge: &[f32], out: &mut [f32]) -> u32
-    ensures { (result, became out) ≡ residual_out (was a) (was b) (was edge) (was out) }
+    ensures { (result, out.new) ≡ residual_out a.now b.now edge.now out.old }
 {
     if !((a.len() == 12) & ((b.len() == 12) & ((edge.len() == 8) & (out.len() == 6)))) {
         return UNFIT;
@@ -238,7 +240,7 @@ pub extern "C" fn pgo_residual(a: &[f64], b: &[f64], edge: &[f32], out: &mut [f3
 // The work is n (n + 3) numbers. No slice has as many as 2^31 unknowns take.
 #[unsafe(no_mangle)]
 pub extern "C" fn pgo_solve(work: &mut [f32], n: u32, damping: f32) -> u32
-    ensures { (result, became work) ≡ solve_out (was work) n damping }
+    ensures { (result, work.new) ≡ solve_out work.old n damping }
 {
     let k = n as usize;
     if 0x8000_0000 <= k {
@@ -265,7 +267,7 @@ fn run_fits(answer: usize, costs: usize) -> bool
 // The costs of a refusal stay as found.
 fn put_answer(answer: &mut [u32], costs: &mut [f32], a: Answer) -> u32
     requires { (length answer.old ≡ 8) × (length costs.old ≡ 2) }
-    ensures { (result, became answer, became costs) ≡ told (was costs) a }
+    ensures { (result, answer.new, costs.new) ≡ told costs.old a }
 {
     slices::copy_counts(&telling::answer_eight(a), answer);
     match a {
@@ -290,9 +292,9 @@ fn run(
     answer: &mut [u32],
     costs: &mut [f32],
 ) -> u32
-    ensures { (result, lists (became work32) (became work64) (became out) (became answer) (became costs))
-        ≡ run_out m (was poses) (was ends) (was edges) (was fixed) set
-        (lists (was work32) (was work64) (was out) (was answer) (was costs)) }
+    ensures { (result, lists work32.new work64.new out.new answer.new costs.new)
+        ≡ run_out m poses.now ends.now edges.now fixed.now set
+        (lists work32.old work64.old out.old answer.old costs.old) }
 {
     if !run_fits(answer.len(), costs.len()) {
         return UNFIT;
@@ -320,10 +322,10 @@ pub extern "C" fn pgo_optimize(
     answer: &mut [u32],
     costs: &mut [f32],
 ) -> u32
-    ensures { (result, lists (became work32) (became work64) (became out) (became answer) (became costs))
-        ≡ run_out Manifold.Se3 (was poses) (was ends) (was edges) (was fixed)
+    ensures { (result, lists work32.new work64.new out.new answer.new costs.new)
+        ≡ run_out Manifold.Se3 poses.now ends.now edges.now fixed.now
         (settings limit cost_tolerance gradient_tolerance damping)
-        (lists (was work32) (was work64) (was out) (was answer) (was costs)) }
+        (lists work32.old work64.old out.old answer.old costs.old) }
 {
     let set = Settings {
         limit,
@@ -366,10 +368,10 @@ pub extern "C" fn pgo_optimize_with_gravity(
     answer: &mut [u32],
     costs: &mut [f32],
 ) -> u32
-    ensures { (result, lists (became work32) (became work64) (became out) (became answer) (became costs))
-        ≡ run_out (Manifold.Gravity (vec gx gy gz)) (was poses) (was ends) (was edges) (was fixed)
+    ensures { (result, lists work32.new work64.new out.new answer.new costs.new)
+        ≡ run_out (Manifold.Gravity (vec gx gy gz)) poses.now ends.now edges.now fixed.now
         (settings limit cost_tolerance gradient_tolerance damping)
-        (lists (was work32) (was work64) (was out) (was answer) (was costs)) }
+        (lists work32.old work64.old out.old answer.old costs.old) }
 {
     let set = Settings {
         limit,
@@ -390,7 +392,7 @@ pub extern "C" fn pgo_optimize_with_gravity(
 // ---- the decisions over a prepared list
 
 // What the list of events leads to: it may end before the run does.
-#[derive(Drop)]
+#[derive(Clone, Copy)]
 enum Decided {
     Unended,
     Ended(Answer),
@@ -398,7 +400,7 @@ enum Decided {
 
 // Where the settings don't pass their checks it is over at once.
 fn decide(set: Settings, cost: f32, events: &[u32], prices: &[f32]) -> Decided
-    ensures { result ≡ decision_from set cost (was events) (was prices) (verdict (setting_rows set)) }
+    ensures { result ≡ decision_from set cost events.now prices.now (verdict (setting_rows set)) }
 {
     if let Verdict::Refused(r) = rows::validate_settings(set) {
         return Decided::Ended(Answer::Refused(r));
@@ -419,7 +421,7 @@ fn decide(set: Settings, cost: f32, events: &[u32], prices: &[f32]) -> Decided
 
 // Whether all are events: 0 to 6.
 fn known_events(events: &[u32]) -> bool
-    ensures { result ≡ known (was events) (length (was events)) }
+    ensures { result ≡ known events.now (length events.now) }
 {
     let mut good = true;
     let mut i = 0usize;
@@ -431,7 +433,7 @@ fn known_events(events: &[u32]) -> bool
 }
 
 fn decide_fits(answer: usize, costs: usize, events: &[u32], prices: &[f32]) -> bool
-    ensures { result ≡ fits_decide answer costs (was events) (was prices) }
+    ensures { result ≡ fits_decide answer costs events.now prices.now }
 {
     let good = known_events(events);
     (answer == 8) & ((costs == 2) & ((events.len() == prices.len()) & good))
@@ -448,8 +450,8 @@ pub extern "C" fn pgo_decide(
     answer: &mut [u32],
     costs: &mut [f32],
 ) -> u32
-    ensures { (result, became answer, became costs) ≡ decided (settings limit tolerance (num 0) damping) cost (was events) (was prices) (was answer)
-        (was costs) }
+    ensures { (result, answer.new, costs.new) ≡ decided (settings limit tolerance (num 0) damping) cost events.now prices.now answer.old
+        costs.old }
 {
     if !decide_fits(answer.len(), costs.len(), events, prices) {
         return UNFIT;
@@ -488,7 +490,7 @@ pub extern "C" fn pgo_assemble(
     fixed: &[u32],
     work: &mut [f32],
 ) -> u32
-    ensures { (result, became work) ≡ assemble_out dof (was gravity) (was poses) (was ends) (was edges) (was fixed) (was work) }
+    ensures { (result, work.new) ≡ assemble_out dof gravity.now poses.now ends.now edges.now fixed.now work.old }
 {
     if !((gravity.len() == 3) & ((dof == 6) | (dof == 4))) {
         return UNFIT;
@@ -509,8 +511,8 @@ pub extern "C" fn pgo_read_job(
     fixed: &mut [u32],
     answer: &mut [u32],
 ) -> u32
-    ensures { (result, space (became poses) (became ends) (became edges) (became fixed), became answer)
-        ≡ read_out (was bytes) (space (was poses) (was ends) (was edges) (was fixed)) (was answer) }
+    ensures { (result, space poses.new ends.new edges.new fixed.new, answer.new)
+        ≡ read_out bytes.now (space poses.old ends.old edges.old fixed.old) answer.old }
 {
     if answer.len() != 8 {
         return UNFIT;
@@ -534,9 +536,9 @@ pub extern "C" fn pgo_write_job(
     out: &mut [u8],
     answer: &mut [u32],
 ) -> u32
-    ensures { (result, became out, became answer)
-        ≡ write_out (job_of (bits limit cost_tolerance gradient_tolerance damping) (space (was poses) (was ends) (was edges) (was fixed)))
-        (was out) (was answer) }
+    ensures { (result, out.new, answer.new)
+        ≡ write_out (job_of (bits limit cost_tolerance gradient_tolerance damping) (space poses.now ends.now edges.now fixed.now))
+        out.old answer.old }
 {
     if answer.len() != 2 {
         return UNFIT;
@@ -566,7 +568,7 @@ fn nine_of(c: Closed) -> [u32; 9]
 // The costs and the measures of a refusal stay as found.
 fn put_closed(answer: &mut [u32], costs: &mut [f32], measures: &mut [f64], c: Closed) -> u32
     requires { (length answer.old ≡ 9) × (length costs.old ≡ 2) × (length measures.old ≡ 4) }
-    ensures { (result, became answer, became costs, became measures) ≡ closed_told (was costs) (was measures) c }
+    ensures { (result, answer.new, costs.new, measures.new) ≡ closed_told costs.old measures.old c }
 {
     slices::copy_counts(&nine_of(c), answer);
     match c {
@@ -580,7 +582,7 @@ fn put_closed(answer: &mut [u32], costs: &mut [f32], measures: &mut [f64], c: Cl
 }
 
 fn gravity_from(g: &[f64]) -> Manifold
-    ensures { result ≡ gravity_of (was g) }
+    ensures { result ≡ gravity_of g.now }
 {
     if g.len() == 0 {
         return Manifold::Se3;
@@ -610,10 +612,10 @@ pub extern "C" fn pgo_close_loops(
     costs: &mut [f32],
     measures: &mut [f64],
 ) -> u32
-    ensures { (result, scan_lists (became work32) (became work64) (became original) (became out) (became answer) (became costs) (became measures))
-        ≡ loops_out (settings limit cost_tolerance gradient_tolerance damping) (was gravity)
-        (scan (was ids) (was poses) (was loops) (was loop_poses) weight)
-        (scan_lists (was work32) (was work64) (was original) (was out) (was answer) (was costs) (was measures)) }
+    ensures { (result, scan_lists work32.new work64.new original.new out.new answer.new costs.new measures.new)
+        ≡ loops_out (settings limit cost_tolerance gradient_tolerance damping) gravity.now
+        (scan ids.now poses.now loops.now loop_poses.now weight)
+        (scan_lists work32.old work64.old original.old out.old answer.old costs.old measures.old) }
 {
     if !telling::closing_fits(gravity.len(), answer.len(), costs.len(), measures.len()) {
         return UNFIT;
@@ -637,7 +639,7 @@ pub extern "C" fn pgo_close_loops(
 // A float with six significant digits, at the start of out; how many bytes.
 #[unsafe(no_mangle)]
 pub extern "C" fn pgo_float_text(x: f64, out: &mut [u8]) -> u32
-    ensures { (result, became out) ≡ text_out x (was out) }
+    ensures { (result, out.new) ≡ text_out x out.old }
 {
     if out.len() != 16 {
         return UNFIT;

@@ -1,7 +1,8 @@
 // What lent numbers mean: poses of twelve f64, edges of eight f32, the blocks of poses. Past the end of what is lent a NaN stands, or no block.
+#![tactic(auto)]
+
 ghost use Rattle.std.specs.Prelude.{◌≡◌, ◌+◌, ◌^◌, ◌<◌, get_or};
 ghost use Rattle.std.specs.Float.{nan};
-ghost use Rattle.numbers.specs.Notation.{was};
 ghost use Rattle.rotations.specs.Rotation.{vec};
 ghost use Rattle.graph.specs.Lent.{dof_of, pose_from, pose_at, numbers_of, edge_from, edge_at, none, slot_in};
 
@@ -11,21 +12,21 @@ use rotations::{Mat3, Pose, QuatF32, Transform, Vec3, Vec3F32};
 const FAR: usize = 0x800_0000_0000_0000;
 
 // Se3: six degrees of freedom a pose. Gravity: four, the turn about this vector.
-#[derive(Drop)]
+#[derive(Clone, Copy)]
 pub enum Manifold {
     Se3,
     Gravity(Vec3),
 }
 
 // What an edge measured, and its weight.
-#[derive(Drop)]
+#[derive(Clone, Copy)]
 pub struct Edge {
     pub measured: Transform,
     pub weight: f32,
 }
 
 // Where a pose's numbers stand in the system: its block, or nowhere.
-#[derive(Drop)]
+#[derive(Clone, Copy)]
 pub enum Slot {
     Block(usize),
     Fixed,
@@ -44,7 +45,7 @@ pub fn dof(m: Manifold) -> usize
 // Three numbers of a pose that starts at `at`, from its j-th on.
 fn vec3_at(poses: &[f64], at: usize, j: usize) -> Vec3
     requires { (at < 2 ^ 63) × (j < 12) }
-    ensures { result ≡ vec (get_or (was poses) (at + j) nan) (get_or (was poses) (at + (j + 1)) nan) (get_or (was poses) (at + (j + 2)) nan) }
+    ensures { result ≡ vec (get_or poses.now (at + j) nan) (get_or poses.now (at + (j + 1)) nan) (get_or poses.now (at + (j + 2)) nan) }
 {
     Vec3 {
         x: numbers::at64(poses, at + j),
@@ -67,7 +68,7 @@ fn no_pose() -> Pose
 
 // Pose x; NaNs past the end of what is lent.
 pub fn pose_at(poses: &[f64], x: usize) -> Pose
-    ensures { result ≡ pose_at (was poses) x }
+    ensures { result ≡ pose_at poses.now x }
 {
     if FAR <= x {
         return no_pose();
@@ -97,7 +98,7 @@ pub fn numbers_of(p: Pose) -> [f64; 12]
 // The transform that starts at `at`.
 fn transform_at(edges: &[f32], at: usize) -> Transform
     requires { at < 2 ^ 63 }
-    ensures { result ≡ (edge_from (λ j. get_or (was edges) (at + j) nan)).measured }
+    ensures { result ≡ (edge_from (λ j. get_or edges.now (at + j) nan)).measured }
 {
     Transform {
         q: QuatF32 {
@@ -135,7 +136,7 @@ fn no_edge() -> Edge
 
 // Edge k; NaNs past the end of what is lent.
 pub fn edge_at(edges: &[f32], k: usize) -> Edge
-    ensures { result ≡ edge_at (was edges) k }
+    ensures { result ≡ edge_at edges.now k }
 {
     if FAR <= k {
         return no_edge();
@@ -149,7 +150,7 @@ pub fn edge_at(edges: &[f32], k: usize) -> Edge
 
 // The x-th block; none past the end.
 pub fn block_at(blocks: &[u32], x: usize) -> u32
-    ensures { result ≡ get_or (was blocks) x none }
+    ensures { result ≡ get_or blocks.now x none }
 {
     if x < blocks.len() {
         blocks[x]
@@ -160,7 +161,7 @@ pub fn block_at(blocks: &[u32], x: usize) -> u32
 
 // The slot of pose x in an array of blocks.
 pub fn slot_at(blocks: &[u32; 256], free: u32, x: usize) -> Slot
-    ensures { result ≡ slot_in (was blocks) free x }
+    ensures { result ≡ slot_in blocks.now free x }
 {
     let b = block_at(blocks, x);
     if b < free {

@@ -1,10 +1,12 @@
 // What programs read: standard input up to as many bytes as can matter, and a read that failed told from the end of the input.
+#![tactic(auto)]
+
 ghost use Rattle.io.specs.Counts.{IsPrefixLen};
 
 use libc::STDIN_FILENO;
 
 // How many bytes were read, and whether a read failed.
-#[derive(Drop)]
+#[derive(Clone, Copy)]
 pub struct Intake {
     pub bytes: usize,
     pub failed: bool,

@@ -1,6 +1,7 @@
 // The Jacobian of an edge for one of its ends: six rows of DOF numbers, from the cells in which an assembly keeps what it knows of the poses.
+#![tactic(auto)]
+
 ghost use Rattle.std.specs.Prelude.{◌≡◌, true, false, ◌+◌, ◌*◌, ◌<◌, ◌≤◌, length};
-ghost use Rattle.numbers.specs.Notation.{was, became};
 ghost use Rattle.graph.specs.Lent.{dof_of, edge_at};
 ghost use Rattle.costs.specs.Stowed.{stowed_from};
 ghost use Rattle.jacobians.specs.Jacobians.{slope, slope_vec, derivative, put_six, code_of, went_of};
@@ -79,7 +80,7 @@ fn column_by(ahead: Edge, behind: Edge, both: BothResiduals) -> Residual
 // Cell e, all of which is lent, so that its length is not tested, unlike in `graph::edge_at`.
 fn stowed_at(known: &[f32], e: usize) -> Edge
     requires { e * 8 + 8 ≤ length known.now }
-    ensures { result ≡ edge_at (was known) e }
+    ensures { result ≡ edge_at known.now e }
 {
     let at = e * 8;
     Edge {
@@ -104,7 +105,7 @@ fn stowed_at(known: &[f32], e: usize) -> Edge
 // by side, of a cell that holds nothing too, and asked after that.
 fn column(known: &[f32], x: usize, l: Link, end: EdgeEndpoint, shift: Hinge, c: usize) -> Residual
     requires { (x < 256) × (c < 6) × (26624 ≤ length known.now) }
-    ensures { result ≡ column_shared l end shift c (edge_at (was known) (spot x c true)) (edge_at (was known) (spot x c false)) }
+    ensures { result ≡ column_shared l end shift c (edge_at known.now (spot x c true)) (edge_at known.now (spot x c false)) }
 {
     let ahead = stowed_at(known, 256 + (x * 12 + c));
     let behind = stowed_at(known, 256 + (x * 12 + (6 + c)));
@@ -121,7 +122,7 @@ fn column(known: &[f32], x: usize, l: Link, end: EdgeEndpoint, shift: Hinge, c: 
 // A column filled in, row by row.
 fn put_six(j: &mut [[f32; 6]; 6], c: usize, d: Twist)
     requires { c < 6 }
-    ensures { became j ≡ put_six (was j) c d }
+    ensures { j.new ≡ put_six j.old c d }
 {
     j[0][c] = d.t.x;
     j[1][c] = d.t.y;
@@ -164,8 +165,8 @@ fn columns(
     code: &mut u32,
 ) -> [[f32; 6]; 6]
     requires { (x < 256) × (26624 ≤ length known.now) }
-    ensures { (became code ≡ code_of (jacobian_by (dof_of m) l end shift (cells_of (was known) x)).0)
-        × (result ≡ (jacobian_by (dof_of m) l end shift (cells_of (was known) x)).1) }
+    ensures { (code.new ≡ code_of (jacobian_by (dof_of m) l end shift (cells_of known.now x)).0)
+        × (result ≡ (jacobian_by (dof_of m) l end shift (cells_of known.now x)).1) }
 {
     let mut j = [[0.0f32; 6]; 6];
     let dof = graph::dof(m);
@@ -184,7 +185,7 @@ fn columns(
 
 // The first probe of pose x, if all cells are lent and it is one of the 256 poses.
 fn first_probe(known: &[f32], x: usize) -> Converted
-    ensures { result ≡ first_probe (was known) x }
+    ensures { result ≡ first_probe known.now x }
 {
     if known.len() < 26624 {
         return Converted::Bad(Failure::Numerical);
@@ -204,7 +205,7 @@ pub fn edge_endpoint_jacobian(
     end: EdgeEndpoint,
     code: &mut u32,
 ) -> [[f32; 6]; 6]
-    ensures { (became code ≡ code_of (jacobian_at (was known) x (dof_of m) l end).0) × (result ≡ (jacobian_at (was known) x (dof_of m) l end).1) }
+    ensures { (code.new ≡ code_of (jacobian_at known.now x (dof_of m) l end).0) × (result ≡ (jacobian_at known.now x (dof_of m) l end).1) }
 {
     let first = match first_probe(known, x) {
         Converted::Into(t) => rotations::widened(t),

@@ -1,6 +1,7 @@
 // The job file: a reader and a writer over lent slices (document 02, Wish 1). Floats cross as their bit patterns, so that a NaN keeps its bits.
+#![tactic(auto)]
+
 ghost use Rattle.std.specs.Prelude.{◌≡◌, ◌+◌, ◌*◌, ◌/◌, ◌<◌, ◌≤◌, ◌^◌, min, length, ◌++◌, ltb};
-ghost use Rattle.numbers.specs.Notation.{was, became};
 ghost use Rattle.job_records.specs.Bytes.{value_at, values_at, pasted, bytes_of, bytes_from};
 ghost use Rattle.job.specs.Format.{scanned_as, IsTaken, taking, filled_by, first_cursor, reading, settings_from, space, room_in, read_into};
 ghost use Rattle.job.specs.Format.{settings_record, pose_record, edge_record, fixed_record, encoded, size_of, setting_numbers, job_of, tally_of};
@@ -13,7 +14,7 @@ use job_records::{Cursor, Step, Tally};
 use numbers::{Refusal, Verdict};
 
 // A run's settings, floats by their bits.
-#[derive(Drop)]
+#[derive(Clone, Copy)]
 pub struct SettingBits {
     pub limit: u32,
     pub cost_tolerance: u32,
@@ -21,19 +22,19 @@ pub struct SettingBits {
     pub damping: u32,
 }
 
-#[derive(Drop)]
+#[derive(Clone, Copy)]
 pub enum Scanned {
     Whole(Tally),
     Refused(Refusal),
 }
 
-#[derive(Drop)]
+#[derive(Clone, Copy)]
 pub enum Read {
     Job(SettingBits, Tally),
     Refused(Refusal),
 }
 
-#[derive(Drop)]
+#[derive(Clone, Copy)]
 pub enum Written {
     Bytes(usize),
     Refused(Refusal),
@@ -44,7 +45,7 @@ pub enum Written {
 // The number of the w bytes of s from `at` on, the low byte first.
 fn value_at(s: &[u8], at: usize, w: usize) -> u64
     requires { (at + w ≤ length s.now) × (w ≤ 8) }
-    ensures { (result ≡ value_at w (was s) at) × (result < 256 ^ w) }
+    ensures { (result ≡ value_at w s.now at) × (result < 256 ^ w) }
 {
     let mut i = w;
     let mut r: u64 = 0;
@@ -57,7 +58,7 @@ fn value_at(s: &[u8], at: usize, w: usize) -> u64
 
 fn value32_at(s: &[u8], at: usize) -> u32
     requires { at + 4 ≤ length s.now }
-    ensures { result ≡ value_at 4 (was s) at }
+    ensures { result ≡ value_at 4 s.now at }
 {
     value_at(s, at, 4) as u32
 }
@@ -65,7 +66,7 @@ fn value32_at(s: &[u8], at: usize) -> u32
 // Reads the n numbers of eight bytes that stand in s from `at` on into `to` from `from` on.
 fn take64(s: &[u8], at: usize, to: &mut [u64], from: usize, n: usize)
     requires { (at + 8 * n ≤ length s.now) × (from + n ≤ length to.old) }
-    ensures { became to ≡ pasted from (values_at 8 n (was s) at) (was to) }
+    ensures { to.new ≡ pasted from (values_at 8 n s.now at) to.old }
 {
     let mut i = 0usize;
     while i < n {
@@ -78,7 +79,7 @@ fn take64(s: &[u8], at: usize, to: &mut [u64], from: usize, n: usize)
 // The same for numbers of four bytes.
 fn take32(s: &[u8], at: usize, to: &mut [u32], from: usize, n: usize)
     requires { (at + 4 * n ≤ length s.now) × (from + n ≤ length to.old) }
-    ensures { became to ≡ pasted from (values_at 4 n (was s) at) (was to) }
+    ensures { to.new ≡ pasted from (values_at 4 n s.now at) to.old }
 {
     let mut i = 0usize;
     while i < n {
@@ -105,7 +106,7 @@ fn first_cursor() -> Cursor
 }
 
 fn scan(room: Tally, s: &[u8]) -> Scanned
-    ensures { result ≡ scanned_as (reading room (was s)) }
+    ensures { result ≡ scanned_as (reading room s.now) }
 {
     let mut c = first_cursor();
     loop {
@@ -135,8 +136,8 @@ fn take_record(
     fixed: &mut [u32],
 )
     requires { (kind ≡ kind_at s.now c.at) × (fault_of (room_in (space poses.old ends.old edges.old fixed.old)) s.now c ≡ Verdict.Fine) }
-    ensures { space (became poses) (became ends) (became edges) (became fixed) ≡
-        taking (was s) c (space (was poses) (was ends) (was edges) (was fixed)) }
+    ensures { space poses.new ends.new edges.new fixed.new ≡
+        taking s.now c (space poses.old ends.old edges.old fixed.old) }
 {
     let at = c.at;
     let had = c.had;
@@ -163,8 +164,8 @@ fn take_records(
     fixed: &mut [u32],
 )
     requires { (room ≡ room_in (space poses.old ends.old edges.old fixed.old)) × IsTaken (reading room s.now) }
-    ensures { space (became poses) (became ends) (became edges) (became fixed) ≡
-        filled_by (reading room (was s)) (space (was poses) (was ends) (was edges) (was fixed)) }
+    ensures { space poses.new ends.new edges.new fixed.new ≡
+        filled_by (reading room s.now) (space poses.old ends.old edges.old fixed.old) }
 {
     let mut c = first_cursor();
     loop {
@@ -185,7 +186,7 @@ fn take_records(
 
 fn settings_in(s: &[u8]) -> SettingBits
     requires { 20 ≤ length s.now }
-    ensures { result ≡ settings_from (values_at 4 4 (was s) 4) }
+    ensures { result ≡ settings_from (values_at 4 4 s.now 4) }
 {
     SettingBits {
         limit: value32_at(s, 4),
@@ -222,8 +223,8 @@ pub fn read_job(
     edges: &mut [u32],
     fixed: &mut [u32],
 ) -> Read
-    ensures { (result, space (became poses) (became ends) (became edges) (became fixed)) ≡
-        read_into (was bytes) (space (was poses) (was ends) (was edges) (was fixed)) }
+    ensures { (result, space poses.new ends.new edges.new fixed.new) ≡
+        read_into bytes.now (space poses.old ends.old edges.old fixed.old) }
 {
     let room = room_in(poses.len(), ends.len(), edges.len(), fixed.len());
     match scan(room, bytes) {
@@ -246,7 +247,7 @@ fn wide32(x: u32) -> u64
 // Puts x into out from `at` on, as w bytes.
 fn put(out: &mut [u8], at: usize, x: u64, w: usize)
     requires { at + w ≤ length out.old }
-    ensures { became out ≡ pasted at (bytes_of w x) (was out) }
+    ensures { out.new ≡ pasted at (bytes_of w x) out.old }
 {
     let mut i = 0usize;
     let mut rest = x;
@@ -260,7 +261,7 @@ fn put(out: &mut [u8], at: usize, x: u64, w: usize)
 // Puts n numbers of ns, from `from` on, into out from `at` on, eight bytes each.
 fn put64(out: &mut [u8], at: usize, ns: &[u64], from: usize, n: usize)
     requires { (at + 8 * n ≤ length out.old) × (from + n ≤ length ns.now) }
-    ensures { became out ≡ pasted at (bytes_from 8 n (was ns) from) (was out) }
+    ensures { out.new ≡ pasted at (bytes_from 8 n ns.now from) out.old }
 {
     let mut i = 0usize;
     while i < n {
@@ -272,7 +273,7 @@ fn put64(out: &mut [u8], at: usize, ns: &[u64], from: usize, n: usize)
 // The same, four bytes each.
 fn put32(out: &mut [u8], at: usize, ns: &[u32], from: usize, n: usize)
     requires { (at + 4 * n ≤ length out.old) × (from + n ≤ length ns.now) }
-    ensures { became out ≡ pasted at (bytes_from 4 n (was ns) from) (was out) }
+    ensures { out.new ≡ pasted at (bytes_from 4 n ns.now from) out.old }
 {
     let mut i = 0usize;
     while i < n {
@@ -287,7 +288,7 @@ fn put32(out: &mut [u8], at: usize, ns: &[u32], from: usize, n: usize)
 // The length of a record's body, and its kind.
 fn put_header(out: &mut [u8], at: usize, len: u64, kind: u64)
     requires { at + 4 ≤ length out.old }
-    ensures { became out ≡ pasted at (bytes_of 2 len ++ bytes_of 2 kind) (was out) }
+    ensures { out.new ≡ pasted at (bytes_of 2 len ++ bytes_of 2 kind) out.old }
 {
     put(out, at, len, 2);
     put(out, at + 2, kind, 2);
@@ -295,7 +296,7 @@ fn put_header(out: &mut [u8], at: usize, len: u64, kind: u64)
 
 fn put_settings(out: &mut [u8], t: SettingBits)
     requires { 20 ≤ length out.old }
-    ensures { became out ≡ pasted 0 (settings_record (setting_numbers t)) (was out) }
+    ensures { out.new ≡ pasted 0 (settings_record (setting_numbers t)) out.old }
 {
     let ns = [t.limit, t.cost_tolerance, t.gradient_tolerance, t.damping];
     put_header(out, 0, 16, 1);
@@ -304,7 +305,7 @@ fn put_settings(out: &mut [u8], t: SettingBits)
 
 fn put_poses(out: &mut [u8], at: usize, poses: &[u64], n: usize)
     requires { (at + 100 * n ≤ length out.old) × (12 * n ≤ length poses.now) }
-    ensures { became out ≡ pasted at (strung (pose_record (was poses)) n) (was out) }
+    ensures { out.new ≡ pasted at (strung (pose_record poses.now) n) out.old }
 {
     let mut i = 0usize;
     while i < n {
@@ -316,7 +317,7 @@ fn put_poses(out: &mut [u8], at: usize, poses: &[u64], n: usize)
 
 fn put_edges(out: &mut [u8], at: usize, ends: &[u32], edges: &[u32], n: usize)
     requires { (at + 44 * n ≤ length out.old) × (2 * n ≤ length ends.now) × (8 * n ≤ length edges.now) }
-    ensures { became out ≡ pasted at (strung (edge_record (was ends) (was edges)) n) (was out) }
+    ensures { out.new ≡ pasted at (strung (edge_record ends.now edges.now) n) out.old }
 {
     let mut i = 0usize;
     while i < n {
@@ -329,7 +330,7 @@ fn put_edges(out: &mut [u8], at: usize, ends: &[u32], edges: &[u32], n: usize)
 
 fn put_fixed(out: &mut [u8], at: usize, fixed: &[u32])
     requires { at + 8 * length fixed.now ≤ length out.old }
-    ensures { became out ≡ pasted at (strung (fixed_record (was fixed)) (length (was fixed))) (was out) }
+    ensures { out.new ≡ pasted at (strung (fixed_record fixed.now) (length fixed.now)) out.old }
 {
     let mut i = 0usize;
     while i < fixed.len() {
@@ -369,7 +370,7 @@ fn put_job(
 ) -> usize
     requires { (had ≡ tally_of (job_of t (space poses.now ends.now edges.now fixed.now))) ×
         (8 * had.edges ≤ length edges.now) × (size_of had ≤ length out.old) }
-    ensures { (result ≡ size_of had) × (became out ≡ pasted 0 (encoded (job_of t (space (was poses) (was ends) (was edges) (was fixed)))) (was out)) }
+    ensures { (result ≡ size_of had) × (out.new ≡ pasted 0 (encoded (job_of t (space poses.now ends.now edges.now fixed.now))) out.old) }
 {
     let p = had.poses;
     let e = had.edges;
@@ -399,7 +400,7 @@ pub fn write_job(
     fixed: &[u32],
     out: &mut [u8],
 ) -> Written
-    ensures { (result, became out) ≡ written_into (job_of t (space (was poses) (was ends) (was edges) (was fixed))) (was out) }
+    ensures { (result, out.new) ≡ written_into (job_of t (space poses.now ends.now edges.now fixed.now)) out.old }
 {
     if (poses.len() % 12 != 0) | ((ends.len() % 2 != 0) | (edges.len() != 4 * ends.len())) {
         return refused(2);

@@ -62,9 +62,9 @@ module _ (room : Tally) (s : List ℕ) (c : Cursor) (r : Step) (rest : ℕ) (res
         filled : (b : Bool) → full ≡ b → is_full room c.had (kind_at s c.at) ≡ b
         filled b u = rw (← h.1, ← f) u
 
-        pub too_many : full ≡ true → r ≡ Stop (refusal 32 c.at) → r ≡ record_step room s c
+        pub too_many_lem : full ≡ true → r ≡ Stop (refusal 32 c.at) → r ≡ record_step room s c
         unfolding record_step fault_of
-        too_many u e = rw (headed, placed h false t, bodied, filled true u) e
+        too_many_lem u e = rw (headed, placed h false t, bodied, filled true u) e
 
         module _ (u : full ≡ false) where
           fine : fault_of room s c ≡ Fine
@@ -85,10 +85,10 @@ unfolding if_then
 one_fits true m h r e p q = let z = leb-false r h e in omega arith
 one_fits false m h r e p q = omega arith
 
-pub one_more : (t m : ℕ) (b : Bool) → b ≡ true → t + one b < m → t + 1 < m
+pub one_more_lem : (t m : ℕ) (b : Bool) → b ≡ true → t + one b < m → t + 1 < m
 unfolding if_then
-one_more t m true e h = h
-one_more t m false e h = absurd (true≢false (sym e))
+one_more_lem t m true e h = h
+one_more_lem t m false e h = absurd (true≢false (sym e))
 
 pub count_fits : (m : ℕ) (room had : Tally) (kind : ℕ) → is_full room had kind ≡ false
     → (room.poses < m) × (room.edges < m) × (room.fixed < m) → (had.poses < m) × (had.edges < m) × (had.fixed < m)

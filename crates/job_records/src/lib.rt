@@ -1,6 +1,7 @@
 // The records of a job file (document 02, Wish 1): which fault the record at a place has, and what it leads to.
+#![tactic(auto)]
+
 ghost use Rattle.std.specs.Prelude.{◌≡◌, ◌+◌, ◌-◌, ◌<◌, ◌≤◌, ◌^◌, length};
-ghost use Rattle.numbers.specs.Notation.{was};
 ghost use Rattle.numbers.specs.Refusals.{refusal, says};
 ghost use Rattle.job_records.specs.Bytes.{value_at};
 ghost use Rattle.job_records.specs.Records.{is_record, may_follow, is_full, end_faults, closed, one, counted, record_step};
@@ -8,7 +9,7 @@ ghost use Rattle.job_records.specs.Records.{is_record, may_follow, is_full, end_
 use numbers::Refusal;
 
 // How many poses, edges and fixed entries there are, or there is room for.
-#[derive(Drop)]
+#[derive(Clone, Copy)]
 pub struct Tally {
     pub poses: usize,
     pub edges: usize,
@@ -16,7 +17,7 @@ pub struct Tally {
 }
 
 // Where reading stands: the place at which a record starts or should, the kind of the record before (0 where there is none), what was counted.
-#[derive(Drop)]
+#[derive(Clone, Copy)]
 pub struct Cursor {
     pub at: usize,
     pub last: u64,
@@ -24,7 +25,7 @@ pub struct Cursor {
 }
 
 // What a record leads to.
-#[derive(Drop)]
+#[derive(Clone, Copy)]
 pub enum Step {
     On(Cursor),
     Done,
@@ -43,7 +44,7 @@ pub fn wide8(x: u8) -> u64
 // The number of the two bytes of s from `at` on, the low byte first.
 fn pair_at(s: &[u8], at: usize) -> u64
     requires { at + 2 ≤ length s.now }
-    ensures { result ≡ value_at 2 (was s) at }
+    ensures { result ≡ value_at 2 s.now at }
 {
     wide8(s[at]) + 256 * wide8(s[at + 1])
 }
@@ -93,7 +94,7 @@ fn stop(number: u32, place: usize) -> Step
 
 // Behind the end record nothing may stand.
 fn close(s: &[u8], at: usize) -> Step
-    ensures { result ≡ closed (says (end_faults (was s)) at) }
+    ensures { result ≡ closed (says (end_faults s.now) at) }
 {
     if at < s.len() {
         return stop(30, at);
@@ -124,7 +125,7 @@ fn count(kind: u64, had: Tally) -> Tally
 
 // The record at c: a cut header, then a bad length, kind or order, a cut body, one too many; else what stands behind it.
 pub fn step_at(room: Tally, s: &[u8], c: Cursor) -> Step
-    ensures { result ≡ record_step room (was s) c }
+    ensures { result ≡ record_step room s.now c }
 {
     let at = c.at;
     let had = c.had;

@@ -1,8 +1,9 @@
 // The terms of a job's run (document 02, Wishes 1 and 2): its settings, bit patterns in the job, as floats, and whether what the run gave may be printed.
+#![tactic(auto)]
+
 ghost use Rattle.std.specs.Prelude.{◌≡◌};
 ghost use Rattle.std.specs.Float.{binary32};
 ghost use Rattle.std.specs.Float.Ieee.{of_bits};
-ghost use Rattle.numbers.specs.Notation.{was};
 ghost use Rattle.job_terms.specs.Terms.{settings_as, printable_after};
 
 use graph::Manifold;
@@ -42,7 +43,7 @@ pub fn printable_after(
     edges: &[f32],
     new: &[f64],
 ) -> Printable
-    ensures { result ≡ printable_after converged iterations limit (was poses) (was ends) (was edges) (was new) }
+    ensures { result ≡ printable_after converged iterations limit poses.now ends.now edges.now new.now }
 {
     let m = printable::measures_at(poses, new, ends, edges);
     let cosine = printable::min_gravity_cosine(Manifold::Se3, poses, new);

@@ -1,5 +1,7 @@
 // Reads a job of at most 256 poses, 1,024 edges and 256 fixed entries from standard input. Where its run succeeds, the job with the new poses goes to standard
 // output; the line goes to standard error, and a second one there says whether it may be printed.
+#![tactic(auto)]
+
 use libc::{STDERR_FILENO, STDOUT_FILENO};
 
 fn join(bytes: &[u8]) {

@@ -1,9 +1,11 @@
 // A job's run (document 02, Wishes 1 and 2): a job is read, run with six degrees of freedom a pose, judged, and written again with the new poses. What a
 // program says of it is made here too, so that programs only read and write.
+#![tactic(auto)]
+
 ghost use Rattle.std.specs.Prelude.{◌≡◌, ◌*◌, ◌≤◌, ◌++◌, length, take, replicate};
 ghost use Rattle.std.specs.Float.{binary32, binary64};
 ghost use Rattle.std.specs.Float.Ieee.{of_bits, to_bits};
-ghost use Rattle.numbers.specs.Notation.{num, was, became};
+ghost use Rattle.numbers.specs.Notation.{num};
 ghost use Rattle.io.specs.Counts.{IsPrefixLen};
 ghost use Rattle.job.specs.Format.{space, job_of, size_of, read_at_most};
 ghost use Rattle.printable.specs.declared.Printable.TheVariants as printable;
@@ -20,21 +22,21 @@ use printable::Printable;
 use sparse_pgo::{Answer, Joined};
 
 // A run that was made, and whether it may be printed; or why it was turned down.
-#[derive(Drop)]
+#[derive(Clone, Copy)]
 pub enum Judged {
     Ran(Joined, Printable),
     Refused(Refusal),
 }
 
 // What is said of a job: poses, edges, iterations, whether it converged and whether it may be printed; or why it was turned down.
-#[derive(Drop)]
+#[derive(Clone, Copy)]
 pub enum Report {
     Ran(usize, usize, u32, bool, Printable),
     Refused(Refusal),
 }
 
 // And the bytes of the joined job.
-#[derive(Drop)]
+#[derive(Clone, Copy)]
 pub struct Joining {
     pub report: Report,
     pub bytes: usize,
@@ -76,7 +78,7 @@ fn blank_singles() -> [f32; 8192]
 // The floats of at most so many patterns, from the start on.
 fn doubles(from: &[u64]) -> [f64; 3072]
     requires { length from.now ≤ 3072 }
-    ensures { (length result ≡ 3072) × (take (length (was from)) result ≡ floats binary64 (was from)) }
+    ensures { (length result ≡ 3072) × (take (length from.now) result ≡ floats binary64 from.now) }
 {
     let mut to = blank_doubles();
     let mut i = 0usize;
@@ -89,7 +91,7 @@ fn doubles(from: &[u64]) -> [f64; 3072]
 
 fn singles(from: &[u32]) -> [f32; 8192]
     requires { length from.now ≤ 8192 }
-    ensures { (length result ≡ 8192) × (take (length (was from)) result ≡ floats binary32 (was from)) }
+    ensures { (length result ≡ 8192) × (take (length from.now) result ≡ floats binary32 from.now) }
 {
     let mut to = blank_singles();
     let mut i = 0usize;
@@ -102,7 +104,7 @@ fn singles(from: &[u32]) -> [f32; 8192]
 
 fn bits(from: &[f64], to: &mut [u64])
     requires { length to.old ≡ length from.now }
-    ensures { became to ≡ patterns binary64 (was from) }
+    ensures { to.new ≡ patterns binary64 from.now }
 {
     let mut i = 0usize;
     while i < to.len() {
@@ -122,8 +124,8 @@ fn run_over(
     fixed: &[u32],
     out: &mut [f64],
 ) -> Answer
-    ensures value { result ≡ (ran_over t (was poses) (was ends) (was edges) (was fixed) (was out)).answer }
-    ensures out_value { became out ≡ (ran_over t (was poses) (was ends) (was edges) (was fixed) (was out)).out }
+    ensures value { result ≡ (ran_over t poses.now ends.now edges.now fixed.now out.old).answer }
+    ensures out_value { out.new ≡ (ran_over t poses.now ends.now edges.now fixed.now out.old).out }
 {
     let mut work32 = [0.0f32; 148608];
     let mut work64 = [0.0f64; 6144];
@@ -148,8 +150,8 @@ fn judge_over(
     fixed: &[u32],
     out: &mut [f64],
 ) -> Judged
-    ensures value { result ≡ judged_over t (was poses) (was ends) (was edges) (was fixed) (was out) }
-    ensures out_value { became out ≡ (ran_over t (was poses) (was ends) (was edges) (was fixed) (was out)).out }
+    ensures value { result ≡ judged_over t poses.now ends.now edges.now fixed.now out.old }
+    ensures out_value { out.new ≡ (ran_over t poses.now ends.now edges.now fixed.now out.old).out }
 {
     let a = run_over(t, poses, ends, edges, fixed, out);
     match a {
@@ -171,8 +173,8 @@ fn run_job(
     new: &mut [u64],
 ) -> Judged
     requires { (length poses.now ≤ 3072) × (length edges.now ≤ 8192) × (length new.old ≡ length poses.now) }
-    ensures value { result ≡ judged_of t (space (was poses) (was ends) (was edges) (was fixed)) }
-    ensures value_2 { became new ≡ patterns binary64 (run_of t (space (was poses) (was ends) (was edges) (was fixed))).out }
+    ensures value { result ≡ judged_of t (space poses.now ends.now edges.now fixed.now) }
+    ensures value_2 { new.new ≡ patterns binary64 (run_of t (space poses.now ends.now edges.now fixed.now)).out }
 {
     let n = poses.len();
     let m = edges.len();
@@ -236,8 +238,8 @@ fn join_read(
     out: &mut [u8],
 ) -> Joining
     requires { (length poses.now ≤ 3072) × (length edges.now ≤ 8192) }
-    ensures { (result.report, result.bytes, became out) ≡
-        joined_with had (job_of t (space (was poses) (was ends) (was edges) (was fixed))) (was out) }
+    ensures { (result.report, result.bytes, out.new) ≡
+        joined_with had (job_of t (space poses.now ends.now edges.now fixed.now)) out.old }
 {
     let n = poses.len();
     let mut new = blank_poses();
@@ -266,8 +268,8 @@ fn join_front(
 ) -> Joining
     requires poses_bound { (had.poses ≤ 256) × (had.edges ≤ 1024) × (had.fixed ≤ 256) }
     requires poses_len { (length poses.now ≡ 3072) × (length ends.now ≡ 2048) × (length edges.now ≡ 8192) × (length fixed.now ≡ 256) }
-    ensures { (result.report, result.bytes, became out) ≡ joined_with had (job_of t (space (take (12 * had.poses) (was poses))
-        (take (2 * had.edges) (was ends)) (take (8 * had.edges) (was edges)) (take had.fixed (was fixed)))) (was out) }
+    ensures { (result.report, result.bytes, out.new) ≡ joined_with had (job_of t (space (take (12 * had.poses) poses.now)
+        (take (2 * had.edges) ends.now) (take (8 * had.edges) edges.now) (take had.fixed fixed.now))) out.old }
 {
     let p = 12 * had.poses;
     let e = 2 * had.edges;
@@ -287,7 +289,7 @@ fn join_front(
 // A job of at most so many poses, edges and fixed entries.
 fn join_within(room: Tally, bytes: &[u8], out: &mut [u8]) -> Joining
     requires { (room.poses ≤ 256) × (room.edges ≤ 1024) × (room.fixed ≤ 256) }
-    ensures { (result.report, result.bytes, became out) ≡ joined_into room (was bytes) (was out) }
+    ensures { (result.report, result.bytes, out.new) ≡ joined_into room bytes.now out.old }
 {
     let mut poses = blank_poses();
     let mut ends = blank_ends();
@@ -311,8 +313,8 @@ fn join_within(room: Tally, bytes: &[u8], out: &mut [u8]) -> Joining
 
 // At document 01's limits: the joined job goes to the start of out.
 pub fn join(bytes: &[u8], out: &mut [u8]) -> Joining
-    ensures out_value { (result.report, result.bytes, became out) ≡ joined_into full_room (was bytes) (was out) }
-    ensures prefix_len { IsPrefixLen result.bytes (became out) }
+    ensures out_value { (result.report, result.bytes, out.new) ≡ joined_into full_room bytes.now out.old }
+    ensures prefix_len { IsPrefixLen result.bytes out.new }
 {
     let room = Tally {
         poses: 256,
@@ -324,7 +326,7 @@ pub fn join(bytes: &[u8], out: &mut [u8]) -> Joining
 
 // At the wish's own: 16 poses, 64 edges, 16 fixed entries, and nothing but a line is wanted. No job within these limits takes more than 4,568 bytes.
 pub fn join_small(bytes: &[u8]) -> Report
-    ensures { result ≡ report_of small_room (was bytes) }
+    ensures { result ≡ report_of small_room bytes.now }
 {
     let room = Tally {
         poses: 16,
@@ -382,7 +384,7 @@ pub fn said(r: Report) -> Line
 
 // A text and two numbers.
 fn with_two(text: &[u8], before: f64, after: f64) -> Line
-    ensures { result ≡ line_of (was text ++ float_text before ++ ascii ", after " ++ float_text after ++ ascii ")\n") }
+    ensures { result ≡ line_of (text.now ++ float_text before ++ ascii ", after " ++ float_text after ++ ascii ")\n") }
 {
     let l = line::with_float(line::with_text(line::empty(), text), before);
     let l = line::with_float(line::with_text(l, b", after "), after);

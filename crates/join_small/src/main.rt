@@ -1,4 +1,6 @@
 // Reads a job of at most 16 poses, 64 edges and 16 fixed entries from standard input and prints one line (document 02, Wish 1).
+#![tactic(auto)]
+
 use libc::{STDERR_FILENO, STDOUT_FILENO};
 
 fn main() {

@@ -1,12 +1,13 @@
 // What programs say, as lines by value: texts, numbers in decimal, floats with six digits, and the lines of a job's run (document 02, Wishes 1 and 2).
+#![tactic(auto)]
+
 ghost use Rattle.std.specs.Prelude.{◌≡◌, ◌+◌, ◌%◌, ◌<◌, ◌≤◌};
-ghost use Rattle.numbers.specs.Notation.{was};
 ghost use Rattle.line.specs.FloatText.{raised, lowered, repeated, scaled_of, whole_part, rounded_six, digits_text};
 ghost use Rattle.line.specs.FloatText.{pointed, plain_text, power_text, six_text, size_text, float_text};
 ghost use Rattle.line.specs.Text.{decimal, ran_text, refused_text, unreadable_text, unwritten_text, yes_no, empty as Text·empty, with_byte, with_text, line_of};
 
 // The first `used` bytes are the text.
-#[derive(Drop)]
+#[derive(Clone, Copy)]
 pub struct Line {
     pub bytes: [u8; 256],
     pub used: usize,
@@ -38,7 +39,7 @@ fn with_byte(l: Line, b: u8) -> Line
 
 // The text goes behind what the line has; what does not fit is left out.
 pub fn with_text(l: Line, text: &[u8]) -> Line
-    ensures { result ≡ with_text l (was text) }
+    ensures { result ≡ with_text l text.now }
 {
     let mut r = l;
     let mut i = 0usize;
@@ -60,14 +61,14 @@ pub fn with_decimal(l: Line, n: u64) -> Line
 // ---- floats
 
 // Stands for value × 10^(tens − 405).
-#[derive(Drop)]
+#[derive(Clone, Copy)]
 pub struct ByTens {
     pub value: f64,
     pub tens: usize,
 }
 
 // Stands for d.ddddd × 10^(tens − 400), the digits as one number.
-#[derive(Drop)]
+#[derive(Clone, Copy)]
 pub struct SixDigits {
     pub digits: u64,
     pub tens: usize,

@@ -1,6 +1,7 @@
 // The normal system of a lent graph, behind the checks, in lent work that stays as found where it is refused.
+#![tactic(auto)]
+
 ghost use Rattle.std.specs.Prelude.{◌≡◌, ◌*◌, ◌≤◌, length};
-ghost use Rattle.numbers.specs.Notation.{was, became};
 ghost use Rattle.graph.specs.Lent.{dof_of};
 ghost use Rattle.profile.specs.Layout.{need};
 ghost use Rattle.normal_system.specs.NormalSystem.{assembling, system_of};
@@ -34,7 +35,7 @@ fn build_over(
     work: &mut [f32],
 ) -> u32
     requires { (length work.old ≡ need (dof_of m * free)) × (length work.old ≤ length system.old) }
-    ensures { (result, became work) ≡ built_out m (was poses) (was ends) (was edges) (was blocks) free (was work) }
+    ensures { (result, work.new) ≡ built_out m poses.now ends.now edges.now blocks.now free work.old }
 {
     let count = work.len();
     let made = assembly::build_normal_system_with_mapping(
@@ -67,7 +68,7 @@ fn build_small(
     work: &mut [f32],
 ) -> u32
     requires { (length work.old ≡ need (dof_of m * free)) × (length work.old ≤ 39004) }
-    ensures { (result, became work) ≡ built_out m (was poses) (was ends) (was edges) (was blocks) free (was work) }
+    ensures { (result, work.new) ≡ built_out m poses.now ends.now edges.now blocks.now free work.old }
 {
     let mut system = [0.0f32; 39004];
     build_over(m, poses, ends, edges, blocks, free, &mut system, work)
@@ -84,7 +85,7 @@ fn build_middle(
     work: &mut [f32],
 ) -> u32
     requires { (length work.old ≡ need (dof_of m * free)) × (length work.old ≤ 87318) }
-    ensures { (result, became work) ≡ built_out m (was poses) (was ends) (was edges) (was blocks) free (was work) }
+    ensures { (result, work.new) ≡ built_out m poses.now ends.now edges.now blocks.now free work.old }
 {
     let mut system = [0.0f32; 87318];
     build_over(m, poses, ends, edges, blocks, free, &mut system, work)
@@ -101,7 +102,7 @@ fn build_large(
     work: &mut [f32],
 ) -> u32
     requires { (length work.old ≡ need (dof_of m * free)) × (length work.old ≤ 148608) }
-    ensures { (result, became work) ≡ built_out m (was poses) (was ends) (was edges) (was blocks) free (was work) }
+    ensures { (result, work.new) ≡ built_out m poses.now ends.now edges.now blocks.now free work.old }
 {
     let mut system = [0.0f32; 148608];
     build_over(m, poses, ends, edges, blocks, free, &mut system, work)
@@ -117,7 +118,7 @@ fn build(
     work: &mut [f32],
 ) -> u32
     requires { (length work.old ≡ need (dof_of m * free)) × (length work.old ≤ 148608) }
-    ensures { (result, became work) ≡ built_out m (was poses) (was ends) (was edges) (was blocks) free (was work) }
+    ensures { (result, work.new) ≡ built_out m poses.now ends.now edges.now blocks.now free work.old }
 {
     if work.len() <= 39004 {
         return build_small(m, poses, ends, edges, blocks, free, work);
@@ -137,7 +138,7 @@ pub fn assemble_alone(
     fixed: &[u32],
     work: &mut [f32],
 ) -> u32
-    ensures { (result, became work) ≡ system_of (assembling m (was poses) (was ends) (was edges) (was fixed) (was work)) (was work) }
+    ensures { (result, work.new) ≡ system_of (assembling m poses.now ends.now edges.now fixed.now work.old) work.old }
 {
     let room = Room {
         work32: work.len(),

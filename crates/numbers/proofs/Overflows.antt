@@ -34,11 +34,11 @@ overflow_is f =
     ∙ ap (λ (z : ℕ). 2 * (2 ^ prec f * 2 ^ last f) - z) half_unit
     ∙ sym (mul-one (2 * (2 ^ prec f * 2 ^ last f) - 2 ^ last f))
   where
-    one_more : (l e : ℕ) → l + (e + 1) ≡ l + suc e
-    one_more l e = omega arith
+    one_more_lem : (l e : ℕ) → l + (e + 1) ≡ l + suc e
+    one_more_lem l e = omega arith
 
     all_units : 2 ^ low f * 2 ^ (emax f + 1) ≡ 2 ^ prec f * 2 ^ last f
-    all_units = sym (pow-add 2 (low f) (emax f + 1)) ∙ ap (λ (z : ℕ). 2 ^ z) (one_more (low f) (emax f)) ∙ over_is f
+    all_units = sym (pow-add 2 (low f) (emax f + 1)) ∙ ap (λ (z : ℕ). 2 ^ z) (one_more_lem (low f) (emax f)) ∙ over_is f
 
     half_unit : 2 * 2 ^ low f * 2 ^ (emax f - prec f) ≡ 2 ^ last f
     half_unit =

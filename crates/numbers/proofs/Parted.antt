@@ -16,8 +16,8 @@ module _ {A : Type 0} (at : ℕ) (w : List A) where
   pub part_from_lem : part_from at w ≡ drop at w
   part_from_lem = take_all (length w - at) (drop at w) long_enough
 
-  pub with_part : (ys : List A) → with_part at w ys ≡ take at w ++ ys
-  with_part ys =
+  pub with_part_lem : (ys : List A) → with_part at w ys ≡ take at w ++ ys
+  with_part_lem ys =
       ap (λ (z : List A). take at w ++ (ys ++ z)) (drop_of_length-le (drop at w) long_enough)
       ∙ ap (λ (z : List A). take at w ++ z) (append-nil ys)
 

@@ -62,13 +62,13 @@ module _ (f : Format) (s : Bool) (x : Exact) (P : 0 < x.power) (D : 0 < x.denomi
         let n = suc c.digits * 2 ^ c.dropped in
         let Y : HasValue y s n (2 ^ low f) = units_val f s (suc c.digits) c.dropped (lt_trans g (counted_below d)) in
         let u : ValueOf f s y = value_of f s y n (2 ^ low f) (units_fit f s (suc c.digits) c.dropped c.small next_full) Y in
-        let step : count c < n = one_more c.digits (2 ^ c.dropped) (pow_pos c.dropped) in
+        let step : count c < n = one_more_lem c.digits (2 ^ c.dropped) (pow_pos c.dropped) in
         let m : TwiceNoMore f x (count c + n) =
         to_most f s x v y (count c) n c.value Y (N.below_larger y u (as_smaller f s x v y (count c) n c.value Y step)) in
         past (count c) (count d) n (in_order x P D _ (2 * 2 ^ low f) _ in_middle m) g
       where
-        one_more : (q y : ℕ) → 0 < y → q * y < suc q * y
-        one_more q y p = omega arith
+        one_more_lem : (q y : ℕ) → 0 < y → q * y < suc q * y
+        one_more_lem q y p = omega arith
 
         past : (a b n : ℕ) → a + b ≤ a + n → n < b → ⊥
         past a b n h l = omega arith

@@ -1,8 +1,6 @@
 -- The signs that every definition of the project is written with: IEEE 754's operations, each rounded once to nearest, and numbers as a reader writes them.
 -- Widening an f32 to an f64 changes no value, and is never written. Definitions only.
 use Rattle.std.specs.Prelude.{ℕ, Bool, true, false, List, slice_index_or, Float}
-use Rattle.std.specs.Borrow.{Bor}
-use denote.Triple.Both.{Both}
 use Rattle.std.specs.Float.{binary32, binary64, nan}
 use Rattle.std.specs.Float.Ieee.{add, sub, mul, div, round}
 
@@ -56,11 +54,3 @@ number_at l j = slice_index_or l j nan
 unfoldable pub if_then : {A : Type 0} → Bool → A → A → A
 if_then true a b = a
 if_then false a b = b
-
--- ---- in contracts: what stands behind a reference as the function is called, and as it returns
-
-abbrev pub was : {A E : Type 0} → Both (Bor A) E → A
-was x = x.entry.now
-
-abbrev pub became : {A E : Type 0} → Both E (Bor A) → A
-became x = x.exit.now

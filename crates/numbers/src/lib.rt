@@ -1,32 +1,34 @@
 // Numbers: finite tests, f32 to f64, total reads of lent numbers; and the answers that all crates above share.
+#![tactic(auto)]
+
 ghost use Rattle.std.specs.Prelude.{◌≡◌, ◌-◌, min, slice_index};
 ghost use Rattle.std.specs.Float.Ieee.Scale.{finite};
 ghost use Rattle.numbers.specs.Refusals.{or_else, ask};
-ghost use Rattle.numbers.specs.Notation.{number_at, was};
+ghost use Rattle.numbers.specs.Notation.{number_at};
 ghost use Rattle.numbers.specs.Walks.{must_be_finite};
 
 // Why numbers can't be had: one is not finite, or lies past the reach of exp.
-#[derive(Drop)]
+#[derive(Clone, Copy)]
 pub enum Failure {
     Numerical,
 }
 
 // What a step says: that it went well, or why it did not.
-#[derive(Drop)]
+#[derive(Clone, Copy)]
 pub enum Went {
     Well,
     Bad(Failure),
 }
 
 // A refusal: document 01's number and place.
-#[derive(Drop)]
+#[derive(Clone, Copy)]
 pub struct Refusal {
     pub number: u32,
     pub place: usize,
 }
 
 // What a table of refusals says: nothing, or a refusal.
-#[derive(Drop)]
+#[derive(Clone, Copy)]
 pub enum Verdict {
     Fine,
     Refused(Refusal),
@@ -76,13 +78,13 @@ pub fn must_be_finite(x: f32) -> Went
 
 // The i-th of lent numbers, a NaN past their end.
 pub fn at64(xs: &[f64], i: usize) -> f64
-    ensures { result ≡ number_at (was xs) i }
+    ensures { result ≡ number_at xs.now i }
 {
     if i < xs.len() { xs[i] } else { 0.0f64 / 0.0f64 }
 }
 
 pub fn at32(xs: &[f32], i: usize) -> f32
-    ensures { result ≡ number_at (was xs) i }
+    ensures { result ≡ number_at xs.now i }
 {
     if i < xs.len() { xs[i] } else { 0.0f32 / 0.0f32 }
 }
@@ -95,7 +97,7 @@ fn wide(x: u32) -> usize
 
 // The i-th of lent indexes, 0 past their end.
 pub fn index_at(xs: &[u32], i: usize) -> usize
-    ensures { result ≡ slice_index (was xs) i }
+    ensures { result ≡ slice_index xs.now i }
 {
     if i < xs.len() { wide(xs[i]) } else { 0 }
 }

@@ -1,4 +1,6 @@
 // A pose to a transform and back: pose_conversion.rs, and the validated forms of sparse_pgo.rs.
+#![tactic(auto)]
+
 ghost use Rattle.std.specs.Prelude.{◌≡◌};
 ghost use Rattle.pose_conversion.specs.Conversions.{vec_f32, vec_f64, mat_f32, mat_f64, transform_of, rebuilt, pose_of};
 ghost use Rattle.pose_conversion.specs.Conversions.{finite3, finite_pose, finite_transform, valid_transform, valid_pose, checked_transform, checked_pose};
@@ -7,14 +9,14 @@ use numbers::Failure;
 use rotations::{Mat3, Mat3F32, Pose, Transform, Vec3, Vec3F32};
 
 // A transform that can be had, or why not.
-#[derive(Drop)]
+#[derive(Clone, Copy)]
 pub enum Converted {
     Into(Transform),
     Bad(Failure),
 }
 
 // A pose that can be had, or why not.
-#[derive(Drop)]
+#[derive(Clone, Copy)]
 pub enum Restored {
     Into(Pose),
     Bad(Failure),

@@ -62,9 +62,9 @@ module _ (m : Manifold) (set : Settings) (room : Room) (s : Scan) (work32 work64
     edges_are : (graph_of i).edges ≡ n
     edges_are = let half : n * 2 / 2 ≡ n = omega arith in ap (λ (l : ℕ). l / 2) (ends_long s n) ∙ half
 
-    too_many : too_many (graph_of i).poses (graph_of i).edges (length i.fixed) ≡ true
+    too_many_lem : too_many (graph_of i).poses (graph_of i).edges (length i.fixed) ≡ true
     unfolding too_many
-    too_many = rw (edges_are, lt-ltb 1024 n large) (or-true (ltb 256 (graph_of i).poses))
+    too_many_lem = rw (edges_are, lt-ltb 1024 n large) (or-true (ltb 256 (graph_of i).poses))
 
     abbrev said : Refusal
     said = spoken (bad_gravity m) (unfit_poses (length s.poses) room.out)
@@ -75,7 +75,7 @@ module _ (m : Manifold) (set : Settings) (room : Room) (s : Scan) (work32 work64
         = rw (ends_long s n, edges_long s n) (unfit_built (length s.poses) n room.out) in
         let third = too_many (graph_of i).poses (graph_of i).edges (length i.fixed) in
         ap (λ (b : Bool). verdict (row 1 (bad_gravity m) ∷ row 2 b ∷ row 3 third ∷ drop 3 (rows i))) shape
-        ∙ ap (λ (b : Bool). verdict (row 1 (bad_gravity m) ∷ row 2 (unfit_poses (length s.poses) room.out) ∷ row 3 b ∷ drop 3 (rows i))) too_many
+        ∙ ap (λ (b : Bool). verdict (row 1 (bad_gravity m) ∷ row 2 (unfit_poses (length s.poses) room.out) ∷ row 3 b ∷ drop 3 (rows i))) too_many_lem
         ∙ rows_large (bad_gravity m) (unfit_poses (length s.poses) room.out) (drop 3 (rows i))
 
     large_closed : closed_run i work32 work64 original out

@@ -1,7 +1,8 @@
 // The scanning bench's step (pose_graph.rs; document 02, Wish 2): chain and loop edges are built of a scan, the graph is run, and what came out is
 // judged. Nothing is allocated.
+#![tactic(auto)]
+
 ghost use Rattle.std.specs.Prelude.{◌≡◌, [], ◌∷◌, length};
-ghost use Rattle.numbers.specs.Notation.{was, became};
 ghost use Rattle.checks.specs.Input.{lent, lent_graph};
 ghost use Rattle.scans.specs.Scans.{scan};
 ghost use Rattle.pose_graph.specs.Closing.{result_for, room_for, closed_run, loops_closed};
@@ -13,7 +14,7 @@ use rows::Settings;
 use sparse_pgo::{Answer, Joined};
 
 // The weight of loop edges, the run's settings, and gravity or none.
-#[derive(Drop)]
+#[derive(Clone, Copy)]
 pub struct PgoConfig {
     pub loop_edge_weight: f32,
     pub settings: Settings,
@@ -21,14 +22,14 @@ pub struct PgoConfig {
 }
 
 // What the run answers, the four measures, and whether it may be printed. The original and the new poses stand in what is lent.
-#[derive(Drop)]
+#[derive(Clone, Copy)]
 pub struct PgoResult {
     pub run: Joined,
     pub measures: Measures,
     pub usable: bool,
 }
 
-#[derive(Drop)]
+#[derive(Clone, Copy)]
 pub enum Closed {
     Ran(PgoResult),
     Refused(Refusal),
@@ -44,8 +45,8 @@ fn result_of(
     out: &[f64],
     run: Joined,
 ) -> PgoResult
-    ensures { result ≡ result_for manifold (lent_graph (was poses) (was ends) (was edges) [])
-        (was poses) (was out) run }
+    ensures { result ≡ result_for manifold (lent_graph poses.now ends.now edges.now [])
+        poses.now out.now run }
 {
     let measures = printable::measures_at(poses, out, ends, edges);
     let preserved = printable::gravity_preserved(manifold, poses, out);
@@ -68,10 +69,10 @@ fn run_and_judge(
     out: &mut [f64],
 ) -> Closed
     requires { length original.old ≡ length poses.now }
-    ensures { record { answer = result; work32 = became work32; work64 = became work64; original = became original; out = became out }
-        ≡ closed_run (lent config.manifold (was poses) (was ends) (was edges) (0 ∷ []) config.settings
-        (room_for (was work32) (was work64) (was out)))
-        (was work32) (was work64) (was original) (was out) }
+    ensures { record { answer = result; work32 = work32.new; work64 = work64.new; original = original.new; out = out.new }
+        ≡ closed_run (lent config.manifold poses.now ends.now edges.now (0 ∷ []) config.settings
+        (room_for work32.old work64.old out.old))
+        work32.old work64.old original.old out.old }
 {
     let manifold = config.manifold;
     let answer = sparse_pgo::sparse_pose_graph_optimize(
@@ -106,9 +107,9 @@ pub fn optimize_pose_graph(
     original: &mut [f64],
     out: &mut [f64],
 ) -> Closed
-    ensures { record { answer = result; work32 = became work32; work64 = became work64; original = became original; out = became out }
-        ≡ loops_closed config (scan (was ids) (was poses) (was loops) (was loop_poses) config.loop_edge_weight)
-        (was work32) (was work64) (was original) (was out) }
+    ensures { record { answer = result; work32 = work32.new; work64 = work64.new; original = original.new; out = out.new }
+        ≡ loops_closed config (scan ids.now poses.now loops.now loop_poses.now config.loop_edge_weight)
+        work32.old work64.old original.old out.old }
 {
     let v = scans::validate_scan(ids, poses.len(), loops, loop_poses.len(), original.len());
     if let Verdict::Refused(r) = v {

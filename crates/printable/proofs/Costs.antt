@@ -131,17 +131,17 @@ with_small (Failed why) q s f Q h = at_most_more ((q + 6) * 2 ^ 256) (mul-le-mul
 below_53 : (k : ℕ) → k ≤ 2 ^ 32 → k * 6 < 2 ^ 53
 below_53 k h = omega arith
 
-one_more : (k : ℕ) → k * 6 + 6 ≡ suc k * 6
-one_more k = omega arith
+one_more_lem : (k : ℕ) → k * 6 + 6 ≡ suc k * 6
+one_more_lem k = omega arith
 
 module _ {P : Type 0} (g : Graph P Edge) (pose : ℕ → Pose) where
   sum_small : (k : ℕ) → k ≤ 2 ^ 32 → AtMost (k * 6 * 2 ^ 256) (squares_up_to g pose k)
   unfolding squares_up_to
   sum_small zero h = subst (AtMost (0 * 6 * 2 ^ 256)) (squares_none g pose) (zero_at_most binary64 (0 * 6 * 2 ^ 256))
   sum_small (suc k) h =
-      subst (λ q. AtMost (q * 2 ^ 256) (with_squares (edge_residual g pose k) (squares_up_to g pose k))) (one_more k)
+      subst (λ q. AtMost (q * 2 ^ 256) (with_squares (edge_residual g pose k) (squares_up_to g pose k))) (one_more_lem k)
       (with_small (edge_residual g pose k) (k * 6) (squares_up_to g pose k) (residual_sound (pose (g.a k)) (pose (g.b k)) (g.measured k))
-      (lt_of_le_of_lt (le_of_eq (one_more k)) (below_53 (suc k) h)) (sum_small k (le_trans (le-suc k) h)))
+      (lt_of_le_of_lt (le_of_eq (one_more_lem k)) (below_53 (suc k) h)) (sum_small k (le_trans (le-suc k) h)))
 
   pub cost_finite : g.edges ≤ 2 ^ 32 → finite (pose_graph_cost g pose) ≡ true
   unfolding pose_graph_cost

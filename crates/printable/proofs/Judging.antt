@@ -111,9 +111,9 @@ smallest_number g zero before after = unfold ratio is_nan in tt
 smallest_number g (suc x) before after =
     smaller_number (gravity_cosine g (before x) (after x)) (smallest_cosine g x before after) (smallest_number g x before after)
 
-one_more : (c s b : Float) → T (not (is_nan s)) → (not (lt s b) && not (lt c b)) ≡ not (lt (if_then (lt c s) c s) b)
+one_more_lem : (c s b : Float) → T (not (is_nan s)) → (not (lt s b) && not (lt c b)) ≡ not (lt (if_then (lt c s) c s) b)
 unfolding if_then
-one_more c s b number = go (lt c s) (lt s b) (lt c b) refl refl refl
+one_more_lem c s b number = go (lt c s) (lt s b) (lt c b) refl refl refl
   where
     go : (cs sb cb : Bool) → lt c s ≡ cs → lt s b ≡ sb → lt c b ≡ cb → (not sb && not cb) ≡ not (lt (if_then cs c s) b)
     go true true cb h k l = rw (is_true (lt c b) (lt_through c s b (subst T (sym h) tt) (subst T (sym k) tt)))
@@ -128,7 +128,7 @@ unfolding every smallest_cosine
 all_by_smallest g zero before after = unfold ratio lt in refl
 all_by_smallest g (suc x) before after =
     rw (all_by_smallest g x before after)
-    (one_more (gravity_cosine g (before x) (after x)) (smallest_cosine g x before after) least_cosine (smallest_number g x before after))
+    (one_more_lem (gravity_cosine g (before x) (after x)) (smallest_cosine g x before after) least_cosine (smallest_number g x before after))
 
 pub kept_by_smallest : (m : Manifold) (n : ℕ) (before after : ℕ → Pose) → gravity_kept m n before after ≡ not (lt (cosine_of m n before after) least_cosine)
 unfolding gravity_kept cosine_of

@@ -1,7 +1,9 @@
 // Whether a joined scan may be printed: the measures and tests of pose_graph.rs, over any edges and any poses (document 02, Wish 2).
+#![tactic(auto)]
+
 ghost use Rattle.std.specs.Prelude.{◌≡◌, ◌/◌, ◌<◌, ◌^◌, [], length};
 ghost use Rattle.std.specs.Float.Ieee.{lt};
-ghost use Rattle.numbers.specs.Notation.{if_then, was};
+ghost use Rattle.numbers.specs.Notation.{if_then};
 ghost use Rattle.graph.specs.Lent.{pose_at};
 ghost use Rattle.checks.specs.Input.{lent_graph};
 ghost use Rattle.printable.specs.Measures.{edge_residual, squares_of, with_squares, pose_graph_cost, residual_norm, last_residual, measures_of};
@@ -16,7 +18,7 @@ use rotations::{Pose, Vec3};
 const LEAST_COSINE: f64 = 0.999999995;
 
 // The cost of all edges and the length of the last edge's residual, before a run and after it.
-#[derive(Drop)]
+#[derive(Clone, Copy)]
 pub struct Measures {
     pub initial_cost: f64,
     pub final_cost: f64,
@@ -25,7 +27,7 @@ pub struct Measures {
 }
 
 // Whether it may be printed; else the first test that fails, with what it compared: iterations and limit, the smallest cosine, before and after.
-#[derive(Drop)]
+#[derive(Clone, Copy)]
 pub enum Printable {
     Yes,
     NoResidual,
@@ -39,7 +41,7 @@ pub enum Printable {
 
 fn weighted_edge_residual(poses: &[f64], ends: &[u32], edges: &[f32], k: usize) -> Residual
     requires { k < 2 ^ 62 }
-    ensures { result ≡ edge_residual (lent_graph [] (was ends) (was edges) []) (pose_at (was poses)) k }
+    ensures { result ≡ edge_residual (lent_graph [] ends.now edges.now []) (pose_at poses.now) k }
 {
     let a = numbers::index_at(ends, k * 2);
     let b = numbers::index_at(ends, k * 2 + 1);
@@ -76,7 +78,7 @@ fn add_residual(r: Residual, sum: f64) -> f64
 
 // Half the sum over all edges that have a residual.
 pub fn pose_graph_cost(poses: &[f64], ends: &[u32], edges: &[f32]) -> f64
-    ensures { result ≡ pose_graph_cost (lent_graph [] (was ends) (was edges) []) (pose_at (was poses)) }
+    ensures { result ≡ pose_graph_cost (lent_graph [] ends.now edges.now []) (pose_at poses.now) }
 {
     let n = ends.len() / 2;
     let mut sum = 0.0f64;
@@ -99,7 +101,7 @@ fn residual_norm(r: Residual) -> f64
 
 // The last edge's; a NaN where it has no residual.
 pub fn last_residual_norm(poses: &[f64], ends: &[u32], edges: &[f32]) -> f64
-    ensures { result ≡ last_residual (lent_graph [] (was ends) (was edges) []) (pose_at (was poses)) }
+    ensures { result ≡ last_residual (lent_graph [] ends.now edges.now []) (pose_at poses.now) }
 {
     let k = numbers::index_before(ends.len() / 2);
     residual_norm(weighted_edge_residual(poses, ends, edges, k))
@@ -107,7 +109,7 @@ pub fn last_residual_norm(poses: &[f64], ends: &[u32], edges: &[f32]) -> f64
 
 // Of the same edges at two lists of poses.
 pub fn measures_at(before: &[f64], after: &[f64], ends: &[u32], edges: &[f32]) -> Measures
-    ensures { result ≡ measures_of (lent_graph [] (was ends) (was edges) []) (pose_at (was before)) (pose_at (was after)) }
+    ensures { result ≡ measures_of (lent_graph [] ends.now edges.now []) (pose_at before.now) (pose_at after.now) }
 {
     Measures {
         initial_cost: pose_graph_cost(before, ends, edges),
@@ -135,7 +137,7 @@ fn smaller(cosine: f64, least: f64) -> f64
 
 // Gravity of unit length; as many poses as there are before.
 fn smallest_cosine(g: Vec3, before: &[f64], after: &[f64]) -> f64
-    ensures { result ≡ smallest_cosine g (length (was before) / 12) (pose_at (was before)) (pose_at (was after)) }
+    ensures { result ≡ smallest_cosine g (length before.now / 12) (pose_at before.now) (pose_at after.now) }
 {
     let n = before.len() / 12;
     let mut least = 1.0f64;
@@ -150,7 +152,7 @@ fn smallest_cosine(g: Vec3, before: &[f64], after: &[f64]) -> f64
 
 // The smallest cosine between gravity before and after in any camera's frame (of the Rust's largest angle); 1 without gravity.
 pub fn min_gravity_cosine(m: Manifold, before: &[f64], after: &[f64]) -> f64
-    ensures { result ≡ cosine_of m (length (was before) / 12) (pose_at (was before)) (pose_at (was after)) }
+    ensures { result ≡ cosine_of m (length before.now / 12) (pose_at before.now) (pose_at after.now) }
 {
     match m {
         Manifold::Se3 => 1.0,
@@ -159,7 +161,7 @@ pub fn min_gravity_cosine(m: Manifold, before: &[f64], after: &[f64]) -> f64
 }
 
 pub fn gravity_preserved(m: Manifold, before: &[f64], after: &[f64]) -> bool
-    ensures { result ≡ gravity_kept m (length (was before) / 12) (pose_at (was before)) (pose_at (was after)) }
+    ensures { result ≡ gravity_kept m (length before.now / 12) (pose_at before.now) (pose_at after.now) }
 {
     !(min_gravity_cosine(m, before, after) < LEAST_COSINE)
 }

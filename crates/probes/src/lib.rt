@@ -1,4 +1,6 @@
 // The probes of a pose, for its Jacobians: its transforms after a step of 0.001 ahead and behind along each axis. What they share is worked out once.
+#![tactic(auto)]
+
 ghost use Rattle.std.specs.Prelude.{◌≡◌};
 ghost use Rattle.pose_conversion.specs.Conversions.{rebuilt};
 ghost use Rattle.probes.specs.Stances.{step_quat, step_shift, finite_matrix, turned_by, swing_of, settled_by, swung_by, swings_by, swings_at, joined};
@@ -14,7 +16,7 @@ use rotations::{Mat3, Mat3F32, Pose, Quat, QuatF32, Rigid, Transform, Vec3, Vec3
 pub const NUM_JACOBIAN_EPS: f32 = 0.001;
 
 // The turns of a gravity manifold's probes: of a shift, and of a step ahead and behind along the fourth axis.
-#[derive(Drop)]
+#[derive(Clone, Copy)]
 pub enum Probing {
     Se3,
     Gravity {
@@ -25,21 +27,21 @@ pub enum Probing {
 }
 
 // The quaternion of a probe, where its rotation could be had.
-#[derive(Drop)]
+#[derive(Clone, Copy)]
 pub enum Swing {
     By(QuatF32),
     Lost,
 }
 
 // The quaternions of the two probes along an axis.
-#[derive(Drop)]
+#[derive(Clone, Copy)]
 struct Swings {
     ahead: Swing,
     behind: Swing,
 }
 
 // The rotation of a probe with gravity, and its quaternion.
-#[derive(Drop)]
+#[derive(Clone, Copy)]
 pub struct Spin {
     pub rotation: Mat3,
     pub swing: Swing,
@@ -47,7 +49,7 @@ pub struct Spin {
 
 // What the probes of a pose share: with Se3 its transform, the matrix of that, and the quaternion of all shifts; with gravity its centre and its three
 // rotations. Or why none can be had.
-#[derive(Drop)]
+#[derive(Clone, Copy)]
 pub enum Stance {
     Se3 {
         at: Rigid,
@@ -64,7 +66,7 @@ pub enum Stance {
 }
 
 // The two probes along an axis.
-#[derive(Drop)]
+#[derive(Clone, Copy)]
 pub struct BothProbes {
     pub ahead: Converted,
     pub behind: Converted,

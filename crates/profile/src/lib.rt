@@ -1,7 +1,8 @@
 // The profile of a system of n unknowns in a solve's work: whether the work has room for it, where each row of H starts, and where a sum of products of two
 // such rows may start. Of any work and any n.
+#![tactic(auto)]
+
 ghost use Rattle.std.specs.Prelude.{◌≡◌, ◌*◌, ◌≤◌, leb, length};
-ghost use Rattle.numbers.specs.Notation.{was};
 ghost use Rattle.profile.specs.Layout.{need};
 ghost use Rattle.profile.specs.Starts.{plus_zero, minus_zero, order_for, start_of, starts_of, first_of, start_at};
 
@@ -49,7 +50,7 @@ fn plus_zero(v: f32) -> bool
 // The first j with H(i,j) not +0, and i where there is none.
 fn first_in(w: &[f32], n: usize, i: usize) -> usize
     requires { n * n ≤ length w.now }
-    ensures { result ≡ start_of (was w) n i }
+    ensures { result ≡ start_of w.now n i }
 {
     if n <= i {
         return 0usize;
@@ -66,7 +67,7 @@ fn first_in(w: &[f32], n: usize, i: usize) -> usize
 
 // Where each row starts. A run has at most 384 unknowns, 6 for each of 64 free poses; rows past them start at 0.
 pub fn starts(w: &[f32], n: usize) -> [usize; 384]
-    ensures { result ≡ starts_of (was w) n }
+    ensures { result ≡ starts_of w.now n }
 {
     let m = order_for(w.len(), n);
     let mut f = [0usize; 384];
@@ -79,7 +80,7 @@ pub fn starts(w: &[f32], n: usize) -> [usize; 384]
 }
 
 pub fn first_of(f: &[usize; 384], i: usize) -> usize
-    ensures { result ≡ first_of (was f) i }
+    ensures { result ≡ first_of f.now i }
 {
     if i < 384usize { f[i] } else { 0usize }
 }

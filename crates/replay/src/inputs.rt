@@ -12,7 +12,7 @@ const POSES: usize = 2048;
 const REST: usize = 4096;
 
 // How many numbers each list has, and where those after the poses start; `end` is where the last ends.
-#[derive(Drop)]
+#[derive(Clone, Copy)]
 pub struct Lists {
     pub poses: usize,
     pub ends: usize,

@@ -10,7 +10,7 @@ use rows::Settings;
 const EVENTS: usize = 2048;
 
 // Status: 0 over, 1 the list ended first, or the refusal's number. How much was written: 0 nothing, 1 the answer, 2 answer and costs.
-#[derive(Drop)]
+#[derive(Clone, Copy)]
 struct Told {
     status: u32,
     written: u32,

@@ -1,5 +1,7 @@
 // Replays a fixed list of the original Rust's answers, bit by bit: a NaN is the same as any NaN. The list comes on standard input; the file `stdin`
 // beside src/ was written by `cargo run --release -p vectors -- FILE` in compare/, whose vectors/src/format.rs describes it.
+#![tactic(auto)]
+
 mod bytes;
 mod inputs;
 mod layers;
@@ -9,7 +11,6 @@ mod say;
 mod systems;
 
 ghost use Rattle.std.specs.Prelude.{◌≤◌, length};
-ghost use Rattle.numbers.specs.Notation.{was};
 
 use say::Tally;
 
@@ -57,8 +58,8 @@ fn same_item(kind: u32, b: &[u8]) -> bool {
     }
 }
 
-// What was counted, and whether all could be read.
-#[derive(Drop)]
+// What counted.now, and whether all could be read.
+#[derive(Clone, Copy)]
 struct Counted {
     whole: bool,
     tally: Tally,
@@ -135,7 +136,7 @@ fn same_record(kind: u32, b: &[u8]) -> bool {
 
 // ---- records
 
-#[derive(Drop)]
+#[derive(Clone, Copy)]
 struct Record {
     whole: bool,
     kind: u32,
@@ -145,7 +146,7 @@ struct Record {
 
 // The record at `at`, where all of it is there.
 fn record_at(file: &[u8], at: usize) -> Record
-    ensures { (result.from ≤ result.to) × (result.to ≤ length (was file)) }
+    ensures { (result.from ≤ result.to) × (result.to ≤ length file.now) }
 {
     let kind = bytes::u32_at(file, at, 0);
     let size = bytes::count_at(file, at, 1, 16384);

@@ -2,7 +2,7 @@
 use libc::STDOUT_FILENO;
 
 // By kind: how many cases there were, and how many differed.
-#[derive(Drop)]
+#[derive(Clone, Copy)]
 pub struct Tally {
     pub cases: [u32; 32],
     pub differing: [u32; 32],

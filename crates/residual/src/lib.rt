@@ -1,4 +1,6 @@
 // The weighted residual of an edge (weighted_relative_residual of sparse_pgo.rs), and by its parts: with one end at other transforms.
+#![tactic(auto)]
+
 ghost use Rattle.std.specs.Prelude.{◌≡◌};
 ghost use Rattle.residual.specs.Residuals.{weighted_vec, weighted, six_if_finite, residual_of, six_of};
 ghost use Rattle.residual.specs.EdgeParts.{undone_of, error_quat, carried, residual_in, tied, linked_of, six_in};
@@ -11,21 +13,21 @@ use pose_conversion::Converted;
 use rotations::{Mat3, Pose, Quat, Rigid, Vec3, Vec3F32};
 
 // Translation, then rotation; or why they can't be had.
-#[derive(Drop)]
+#[derive(Clone, Copy)]
 pub enum Residual {
     Six(Twist),
     Failed(Failure),
 }
 
 // The end of an edge that a Jacobian is of.
-#[derive(Drop)]
+#[derive(Clone, Copy)]
 pub enum EdgeEndpoint {
     A,
     B,
 }
 
 // An edge whose ends and measurement could be had: a⁻¹, b, measured⁻¹ and the weight, with the matrices of b and of measured⁻¹.
-#[derive(Drop)]
+#[derive(Clone, Copy)]
 pub struct Link {
     pub back: Rigid,
     pub to: Rigid,
@@ -37,7 +39,7 @@ pub struct Link {
 
 // What an end's quaternion gives of a residual, whatever the end's translation: the matrix that turns that translation (of end b: a⁻¹'s),
 // ω and D of the error's log, and the residual's rotation.
-#[derive(Drop)]
+#[derive(Clone, Copy)]
 pub struct Hinge {
     pub matrix: Mat3,
     pub log: LogTurn,
@@ -45,27 +47,27 @@ pub struct Hinge {
 }
 
 // Of an end's two probes along an axis.
-#[derive(Drop)]
+#[derive(Clone, Copy)]
 pub struct Hinges {
     pub ahead: Hinge,
     pub behind: Hinge,
 }
 
-#[derive(Drop)]
+#[derive(Clone, Copy)]
 pub struct BothResiduals {
     pub ahead: Residual,
     pub behind: Residual,
 }
 
 // Two translations, each on its way through the same steps.
-#[derive(Drop)]
+#[derive(Clone, Copy)]
 struct Sides {
     ahead: Vec3,
     behind: Vec3,
 }
 
 // An edge by its parts, and its residual; or why they can't be had.
-#[derive(Drop)]
+#[derive(Clone, Copy)]
 pub enum Linked {
     By { link: Link, six: Twist },
     Bad(Failure),

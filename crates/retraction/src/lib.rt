@@ -1,4 +1,6 @@
 // Retraction on each manifold (sparse_pgo.rs): a pose moved by a step.
+#![tactic(auto)]
+
 ghost use Rattle.std.specs.Prelude.{◌≡◌, ◌+◌, ◌≤◌};
 ghost use Rattle.std.specs.Float.Ieee.Scale.{finite};
 ghost use Rattle.numbers.specs.Notation.{number_at};

@@ -4,3 +4,4 @@ pub mod Cases
 pub mod Believe
 pub mod RootServes
 pub mod Bounded
+pub mod RoundsTo

@@ -1,4 +1,6 @@
 // Square roots at either format, worked out from sign, exponent and fraction bits, rounded once.
+#![tactic(auto)]
+
 ghost use Rattle.std.specs.Prelude.{◌≡◌, ℕ, suc, ◌+◌, ◌-◌, ◌*◌, ◌/◌, ◌%◌, ◌^◌, ◌<◌, ◌≤◌, false, from_bits};
 ghost use Rattle.std.specs.Float.{Format, binary32, binary64};
 ghost use Rattle.std.specs.Float.Ieee.{prec, emax, low, ones, of_fields};
@@ -6,7 +8,7 @@ ghost use Rattle.std.specs.Float.Ieee.Exact.{HasValue};
 ghost use Rattle.roots.specs.Roots.{rooted, NearestRoot};
 
 // A root in digits: q is the whole part of the root of q * q + rest.
-#[derive(Drop)]
+#[derive(Clone, Copy)]
 struct Root {
     pub q: u64,
     pub rest: u64,
@@ -47,7 +49,7 @@ fn digits(m: u64) -> Root
 }
 
 // A whole number n: where over is above 0, the one nearest to the root of n * n - n + over.
-#[derive(Drop)]
+#[derive(Clone, Copy)]
 struct NearRoot {
     pub n: u64,
     pub over: u64,
@@ -159,7 +161,7 @@ fn guess(q: u64, odd: u64) -> u64
 }
 
 // q * 2^a
-#[derive(Drop)]
+#[derive(Clone, Copy)]
 struct Scaled {
     pub q: u64,
     pub a: u64,
@@ -202,7 +204,7 @@ fn unpacked(b: u64, w: u64, least: u64) -> Scaled
 
 // A number's root before its digits are found: its bits are k * 2^w and the digits of the root of q * 2^odd * 2^w, the leading
 // one among them.
-#[derive(Drop)]
+#[derive(Clone, Copy)]
 struct Halving {
     pub q: u64,
     pub odd: u64,

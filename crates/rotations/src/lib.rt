@@ -1,18 +1,20 @@
 // Rotation arithmetic of document 01: vectors, matrices and quaternions in f64, transforms in f32. (exp and log: the crate exp_log.)
+#![tactic(auto)]
+
 ghost use Rattle.std.specs.Prelude.{◌≡◌};
 ghost use Rattle.rotations.specs.Rotation.{dot, cross, plus, minus, times, matrix_of, turned, transpose, mat_product, conjugate, quat_product, over};
 ghost use Rattle.rotations.specs.Rotation.{length_of, unit_vec};
 ghost use Rattle.rotations.specs.Rotation.{wide, finished, rounded_vec, rounded_quat, product, inverse};
 ghost use Rattle.rotations.specs.FromMatrix.{halved_by, quat_of_matrix};
 
-#[derive(Drop)]
+#[derive(Clone, Copy)]
 pub struct Vec3 {
     pub x: f64,
     pub y: f64,
     pub z: f64,
 }
 
-#[derive(Drop)]
+#[derive(Clone, Copy)]
 pub struct Quat {
     pub x: f64,
     pub y: f64,
@@ -20,14 +22,14 @@ pub struct Quat {
     pub w: f64,
 }
 
-#[derive(Drop)]
+#[derive(Clone, Copy)]
 pub struct Vec3F32 {
     pub x: f32,
     pub y: f32,
     pub z: f32,
 }
 
-#[derive(Drop)]
+#[derive(Clone, Copy)]
 pub struct QuatF32 {
     pub x: f32,
     pub y: f32,
@@ -36,7 +38,7 @@ pub struct QuatF32 {
 }
 
 // By columns.
-#[derive(Drop)]
+#[derive(Clone, Copy)]
 pub struct Mat3 {
     pub x: Vec3,
     pub y: Vec3,
@@ -44,7 +46,7 @@ pub struct Mat3 {
 }
 
 // By columns, in f32.
-#[derive(Drop)]
+#[derive(Clone, Copy)]
 pub struct Mat3F32 {
     pub x: Vec3F32,
     pub y: Vec3F32,
@@ -52,21 +54,21 @@ pub struct Mat3F32 {
 }
 
 // The Rust's SE3F32.
-#[derive(Drop)]
+#[derive(Clone, Copy)]
 pub struct Transform {
     pub q: QuatF32,
     pub t: Vec3F32,
 }
 
 // The Rust's Pose3d: rotation columns x, y, z, then translation; twelve f64.
-#[derive(Drop)]
+#[derive(Clone, Copy)]
 pub struct Pose {
     pub rotation: Mat3,
     pub translation: Vec3,
 }
 
 // A transform in f64, before it is narrowed.
-#[derive(Drop)]
+#[derive(Clone, Copy)]
 pub struct Rigid {
     pub q: Quat,
     pub t: Vec3,

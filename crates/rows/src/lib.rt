@@ -1,8 +1,9 @@
 // What the rows of the table of refusals ask (document 01): of the input as a whole, of one edge, of one fixed entry, of the free poses and the work; and
 // rows 15 to 19, the settings, whole. The table itself, with rows 6 and 26, stands in the crate checks.
+#![tactic(auto)]
+
 ghost use Rattle.std.specs.Prelude.{◌≡◌, not, ◌||◌, eqb, ltb, leb};
 ghost use Rattle.std.specs.Float.Ieee.Scale.{finite};
-ghost use Rattle.numbers.specs.Notation.{was};
 ghost use Rattle.numbers.specs.Refusals.{or_else, ask, says, verdict};
 ghost use Rattle.pose_conversion.specs.Conversions.{finite_transform};
 ghost use Rattle.rows.specs.Tests.{bad_gravity, unfit, too_many, short_work, bad_tolerance, bad_damping, fixed_faults, setting_rows};
@@ -13,7 +14,7 @@ use numbers::Verdict;
 // Gravity of this length or less points nowhere.
 const SHORTEST: f64 = 1.0 / 1000000000.0;
 
-#[derive(Drop)]
+#[derive(Clone, Copy)]
 pub struct Settings {
     pub limit: u32,
     pub cost_tolerance: f32,
@@ -22,7 +23,7 @@ pub struct Settings {
 }
 
 // The lengths of what is lent to be written.
-#[derive(Drop)]
+#[derive(Clone, Copy)]
 pub struct Room {
     pub work32: usize,
     pub work64: usize,
@@ -103,7 +104,7 @@ pub fn edge_10(v: Verdict, e: Edge, k: usize) -> Verdict
 }
 
 pub fn fixed_11(n: usize, fixed: &[u32], k: usize) -> Verdict
-    ensures { result ≡ says (fixed_faults n (was fixed)) k }
+    ensures { result ≡ says (fixed_faults n fixed.now) k }
 {
     let x = numbers::index_at(fixed, k);
     numbers::asked(Verdict::Fine, n <= x, 11, k)

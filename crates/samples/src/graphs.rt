@@ -4,7 +4,7 @@ ghost use Rattle.std.specs.Prelude.{◌<◌};
 use rotations::{Mat3, Pose, Vec3};
 
 // 66 poses and 65 edges; a run takes as many as it wants.
-#[derive(Drop)]
+#[derive(Clone, Copy)]
 pub struct Graph {
     pub poses: [f64; 792],
     pub ends: [u32; 130],

@@ -3,7 +3,7 @@ use crate::graphs;
 use rotations::Pose;
 
 // Twelve numbers a keyframe, and twelve a loop.
-#[derive(Drop)]
+#[derive(Clone, Copy)]
 pub struct Scan {
     pub poses: [f64; 48],
     pub loop_poses: [f64; 48],

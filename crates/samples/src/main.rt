@@ -1,4 +1,6 @@
 // Document 01's sample joins, then those of document 02's Wish 6, then scans of its Wish 2 with whether they may be printed; run and printed, one line each.
+#![tactic(auto)]
+
 mod graphs;
 mod keyframes;
 mod say;
@@ -164,7 +166,7 @@ fn many_free() {
 
 // ---- a ring that does not close
 
-// 50 views. A true step is a turn by 7.2 degrees about z (the fiftieth part of a full turn) and a shift by 1; what was measured, and what the poses
+// 50 views. A true step is a turn by 7.2 degrees about z (the fiftieth part of a full turn) and a shift by 1; what measured.now, and what the poses
 // come from, is a turn by 7.25 degrees with a rise of 0.01. Only the edge from the last view to the first measured the true step.
 fn ring() -> Graph {
     let drifted = graphs::vec(1.0, 0.0, 0.01);

@@ -1,6 +1,8 @@
 // A scan and the graph that is built of it (pose_graph.rs; document 02, Wish 2): rows 33 and 34, which keyframe an id means, the chain's edges and the loops'.
+#![tactic(auto)]
+
 ghost use Rattle.std.specs.Prelude.{◌≡◌, [], ◌∷◌, ◌++◌, ◌+◌, ◌-◌, ◌*◌, ◌/◌, ◌<◌, ◌≤◌, ◌^◌, min, length, take, drop, replicate};
-ghost use Rattle.numbers.specs.Notation.{num, was, became};
+ghost use Rattle.numbers.specs.Notation.{num};
 ghost use Rattle.numbers.specs.Refusals.{verdict, says, or_else, lowest};
 ghost use Rattle.numbers.specs.Walks.{strung};
 ghost use Rattle.scans.specs.Scans.{node_of, candidate_node, query_node, node_number, inverse_pose, pose_product};
@@ -12,14 +14,14 @@ use numbers::Verdict;
 use rotations::Pose;
 
 // The keyframe that an id means.
-#[derive(Drop)]
+#[derive(Clone, Copy)]
 pub enum Node {
     At(usize),
     Absent,
 }
 
 // The two ends of an edge.
-#[derive(Drop)]
+#[derive(Clone, Copy)]
 struct EdgeEnds {
     a: u32,
     b: u32,
@@ -32,7 +34,7 @@ const MOST_BUILT: usize = 1025;
 
 // The last of equal ids.
 fn node_of(ids: &[u32], id: usize) -> Node
-    ensures { result ≡ node_of (was ids) id }
+    ensures { result ≡ node_of ids.now id }
 {
     let mut n = ids.len();
     while 0 < n {
@@ -47,14 +49,14 @@ fn node_of(ids: &[u32], id: usize) -> Node
 
 fn candidate_node(ids: &[u32], loops: &[u32], k: usize) -> Node
     requires { k < 2 ^ 62 }
-    ensures { result ≡ candidate_node (was ids) (was loops) k }
+    ensures { result ≡ candidate_node ids.now loops.now k }
 {
     node_of(ids, numbers::index_at(loops, k * 2))
 }
 
 fn query_node(ids: &[u32], loops: &[u32], k: usize) -> Node
     requires { k < 2 ^ 62 }
-    ensures { result ≡ query_node (was ids) (was loops) k }
+    ensures { result ≡ query_node ids.now loops.now k }
 {
     node_of(ids, numbers::index_at(loops, k * 2 + 1))
 }
@@ -87,7 +89,7 @@ fn unfit_scan(ids: usize, poses: usize, loops: usize, loop_poses: usize, origina
 
 fn loop_34(ids: &[u32], loops: &[u32], k: usize) -> Verdict
     requires { k < 2 ^ 62 }
-    ensures { result ≡ says (loop_faults (was ids) (was loops)) k }
+    ensures { result ≡ says (loop_faults ids.now loops.now) k }
 {
     let candidate = candidate_node(ids, loops, k);
     let query = query_node(ids, loops, k);
@@ -101,7 +103,7 @@ fn loop_34(ids: &[u32], loops: &[u32], k: usize) -> Verdict
 
 // Row 34.
 fn loop_rows(v: Verdict, ids: &[u32], loops: &[u32]) -> Verdict
-    ensures { result ≡ or_else v (lowest (loop_faults (was ids) (was loops)) (length (was loops) / 2)) }
+    ensures { result ≡ or_else v (lowest (loop_faults ids.now loops.now) (length loops.now / 2)) }
 {
     let Verdict::Fine = v else {
         return v;
@@ -126,7 +128,7 @@ pub fn validate_scan(
     loop_poses: usize,
     original: usize,
 ) -> Verdict
-    ensures { result ≡ verdict (scan_rows (was ids) poses (was loops) loop_poses original) }
+    ensures { result ≡ verdict (scan_rows ids.now poses loops.now loop_poses original) }
 {
     let unfit = unfit_scan(ids.len(), poses, loops.len(), loop_poses, original);
     loop_rows(numbers::asked(Verdict::Fine, unfit, 33, 0), ids, loops)
@@ -165,7 +167,7 @@ pub fn between(earlier: Pose, later: Pose) -> Pose
 
 fn chain_edge(poses: &[f64], k: usize) -> Edge
     requires { k < 2 ^ 62 }
-    ensures { result ≡ chain_edge (was poses) k }
+    ensures { result ≡ chain_edge poses.now k }
 {
     let p = between(graph::pose_at(poses, k), graph::pose_at(poses, k + 1));
     Edge {
@@ -175,7 +177,7 @@ fn chain_edge(poses: &[f64], k: usize) -> Edge
 }
 
 fn loop_edge(loop_poses: &[f64], weight: f32, k: usize) -> Edge
-    ensures { result ≡ loop_edge (was loop_poses) weight k }
+    ensures { result ≡ loop_edge loop_poses.now weight k }
 {
     Edge {
         measured: pose_conversion::pose_to_se3(graph::pose_at(loop_poses, k)),
@@ -186,7 +188,7 @@ fn loop_edge(loop_poses: &[f64], weight: f32, k: usize) -> Edge
 // Edge k, where the first `chain` are the chain's.
 fn scan_edge(chain: usize, poses: &[f64], loop_poses: &[f64], weight: f32, k: usize) -> Edge
     requires { k < 2 ^ 62 }
-    ensures { result ≡ scan_edge chain (was poses) (was loop_poses) weight k }
+    ensures { result ≡ scan_edge chain poses.now loop_poses.now weight k }
 {
     if k < chain {
         return chain_edge(poses, k);
@@ -205,7 +207,7 @@ fn edge_numbers(e: Edge) -> [f32; 8]
 // Edge k's eight numbers, in their place.
 fn put_edge(edges: &mut [f32], k: usize, e: Edge)
     requires { k * 8 + 8 ≤ length edges.old }
-    ensures { became edges ≡ take (k * 8) (was edges) ++ edge_numbers e ++ drop (k * 8 + 8) (was edges) }
+    ensures { edges.new ≡ take (k * 8) edges.old ++ edge_numbers e ++ drop (k * 8 + 8) edges.old }
 {
     let at = k * 8;
     slices::copy32(&edge_numbers(e), &mut edges[at..at + 8]);
@@ -231,7 +233,7 @@ pub fn built_edges(
     weight: f32,
     n: usize,
 ) -> [f32; 8200]
-    ensures { result ≡ strung (λ k. edge_numbers (scan_edge (keyframes - 1) (was poses) (was loop_poses) weight k)) (min n 1025)
+    ensures { result ≡ strung (λ k. edge_numbers (scan_edge (keyframes - 1) poses.now loop_poses.now weight k)) (min n 1025)
         ++ replicate (8200 - min n 1025 * 8) (num 0) }
 {
     let chain = numbers::index_before(keyframes);
@@ -262,7 +264,7 @@ fn node_number(n: Node) -> u32
 // The two ends of edge k. Where it is a loop's there are at most k + 1 keyframes.
 fn scan_ends(ids: &[u32], loops: &[u32], k: usize) -> EdgeEnds
     requires { k < 1025 }
-    ensures { result.a ∷ result.b ∷ [] ≡ scan_ends (was ids) (was loops) k }
+    ensures { result.a ∷ result.b ∷ [] ≡ scan_ends ids.now loops.now k }
 {
     let chain = numbers::index_before(ids.len());
     if k < chain {
@@ -281,7 +283,7 @@ fn scan_ends(ids: &[u32], loops: &[u32], k: usize) -> EdgeEnds
 
 // The ends of the first n edges; no more than are built.
 pub fn built_ends(ids: &[u32], loops: &[u32], n: usize) -> [u32; 2050]
-    ensures { result ≡ strung (scan_ends (was ids) (was loops)) (min n 1025) ++ replicate (2050 - min n 1025 * 2) 0 }
+    ensures { result ≡ strung (scan_ends ids.now loops.now) (min n 1025) ++ replicate (2050 - min n 1025 * 2) 0 }
 {
     let most = numbers::smaller_of(n, MOST_BUILT);
     let mut ends = zero_ends();

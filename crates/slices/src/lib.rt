@@ -1,11 +1,13 @@
 // Copies and clears over lent slices, of any lengths: the loops that crates above would else write again.
+#![tactic(auto)]
+
 ghost use Rattle.std.specs.Prelude.{◌≡◌, length, replicate};
-ghost use Rattle.numbers.specs.Notation.{num, was, became};
+ghost use Rattle.numbers.specs.Notation.{num};
 ghost use Rattle.slices.specs.Slices.{copied};
 
 // As many numbers as both have.
 pub fn copy32(from: &[f32], to: &mut [f32])
-    ensures { became to ≡ copied (was from) (was to) }
+    ensures { to.new ≡ copied from.now to.old }
 {
     let n = numbers::smaller_of(to.len(), from.len());
     let mut i = 0usize;
@@ -16,7 +18,7 @@ pub fn copy32(from: &[f32], to: &mut [f32])
 }
 
 pub fn copy64(from: &[f64], to: &mut [f64])
-    ensures { became to ≡ copied (was from) (was to) }
+    ensures { to.new ≡ copied from.now to.old }
 {
     let n = numbers::smaller_of(to.len(), from.len());
     let mut i = 0usize;
@@ -28,7 +30,7 @@ pub fn copy64(from: &[f64], to: &mut [f64])
 
 // The same of counts and indexes.
 pub fn copy_counts(from: &[u32], to: &mut [u32])
-    ensures { became to ≡ copied (was from) (was to) }
+    ensures { to.new ≡ copied from.now to.old }
 {
     let n = numbers::smaller_of(to.len(), from.len());
     let mut i = 0usize;
@@ -40,7 +42,7 @@ pub fn copy_counts(from: &[u32], to: &mut [u32])
 
 // Every number becomes +0.
 pub fn clear32(w: &mut [f32])
-    ensures { became w ≡ replicate (length (was w)) (num 0) }
+    ensures { w.new ≡ replicate (length w.old) (num 0) }
 {
     let mut i = 0usize;
     while i < w.len() {
@@ -50,7 +52,7 @@ pub fn clear32(w: &mut [f32])
 }
 
 pub fn clear64(w: &mut [f64])
-    ensures { became w ≡ replicate (length (was w)) (num 0) }
+    ensures { w.new ≡ replicate (length w.old) (num 0) }
 {
     let mut i = 0usize;
     while i < w.len() {

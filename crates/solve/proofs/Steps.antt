@@ -101,9 +101,9 @@ store_stuck z n F (suc i) b h l long s =
     (eq-or-lt_of_le h)
 
 -- what is left out changes nothing
-left_out : (F : List ℕ) (i : ℕ) (v x : Float) (k : ℕ) → Fits v → (i < first_of F k → Zero x) → left_out F i v k ≡ true → v ⊟ x ≡ v
+left_out_lem : (F : List ℕ) (i : ℕ) (v x : Float) (k : ℕ) → Fits v → (i < first_of F k → Zero x) → left_out F i v k ≡ true → v ⊟ x ≡ v
 unfolding left_out ne
-left_out F i v x k f z h =
+left_out_lem F i v x k f z h =
     let b = ltb i (first_of F k) in
     zero_less v x f (unequal_zero v (not-true (eq v (num 0)) (and_second b (ne v (num 0)) h))) (z (ltb-true i (first_of F k) (and_first b (ne v (num 0)) h)))
 
@@ -192,7 +192,7 @@ module _ (n : ℕ) (H : ℕ → ℕ → Float) (g : ℕ → Float) (d : Float) (
         let x = L k i ⊠ y k in (
           rw (e.0, s.cells k i hk (omega arith), s.steps k hk)
               (⊎_elim
-              (λ (a : left_out F i v k ≡ true). rw a (sym (left_out F i v x k e.1 (λ l. rw (t.left k i hk l) (plus_times (y k) (s.done k (omega arith) hk))) a)))
+              (λ (a : left_out F i v k ≡ true). rw a (sym (left_out_lem F i v x k e.1 (λ l. rw (t.left k i hk l) (plus_times (y k) (s.done k (omega arith) hk))) a)))
               (λ (a : left_out F i v k ≡ false). rw a)
               (true_or_false (left_out F i v k))),
           sub-fits binary32 v x,

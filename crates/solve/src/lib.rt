@@ -1,9 +1,10 @@
 // The damped solve: damping on the diagonal, Cholesky, forward and back substitution, in lent work.
 // What is +0 by structure, left of a row's first entry that is not +0, is skipped: the bits are those of the plain rule all the same.
+#![tactic(auto)]
+
 ghost use Rattle.std.specs.Prelude.{◌≡◌, true, cond, ◌+◌, ◌-◌, ◌*◌, ◌<◌, ◌≤◌, length, get_or};
 ghost use Rattle.std.specs.Float.{nan};
 ghost use Rattle.std.specs.Float.Ieee.Scale.{finite};
-ghost use Rattle.numbers.specs.Notation.{was, became};
 ghost use Rattle.numbers.specs.Walks.{every};
 ghost use Rattle.solve.specs.Rule as R;
 ghost use Rattle.profile.specs.Layout.{need};
@@ -12,7 +13,7 @@ ghost use Rattle.solve.specs.Work.{work_after, solved_as, leaves};
 ghost use Rattle.solve.specs.forms.Profile as P;
 
 // Step: the step stands in the work. Failed: there is none. Short: the work is shorter than n (n + 3), and is as it was.
-#[derive(Drop)]
+#[derive(Clone, Copy)]
 pub enum Solved {
     Step,
     Failed,
@@ -24,7 +25,7 @@ pub enum Solved {
 // The m places from p on.
 fn clear(w: &mut [f32], p: usize, m: usize)
     requires { p + m ≤ length w.old }
-    ensures { became w ≡ P.cleared_at (was w) p m }
+    ensures { w.new ≡ P.cleared_at w.old p m }
 {
     slices::clear32(&mut w[p..p + m]);
 }
@@ -32,7 +33,7 @@ fn clear(w: &mut [f32], p: usize, m: usize)
 // The rows of L, without the diagonal.
 fn clear_rows(w: &mut [f32], n: usize)
     requires { n * n ≤ length w.old }
-    ensures { became w ≡ P.cleared_rows (was w) n n }
+    ensures { w.new ≡ P.cleared_rows w.old n n }
 {
     let mut i = 0usize;
     while i < n {
@@ -44,7 +45,7 @@ fn clear_rows(w: &mut [f32], n: usize)
 // All of L.
 fn clear_lower(w: &mut [f32], n: usize)
     requires { need n ≤ length w.old }
-    ensures { became w ≡ work_after (was w) n (P.step_of (was w) n) }
+    ensures { w.new ≡ work_after w.old n (P.step_of w.old n) }
 {
     clear_rows(w, n);
     clear(w, n * n, n);
@@ -55,7 +56,7 @@ fn clear_lower(w: &mut [f32], n: usize)
 // v less the products of the numbers from p on and from q on, the k-th of each for k from a up to m.
 fn less(w: &[f32], v: f32, p: usize, q: usize, a: usize, m: usize) -> f32
     requires { (p + m ≤ length w.now) × (q + m ≤ length w.now) }
-    ensures { result ≡ P.less_at (was w) v (p + a) (q + a) (m - a) }
+    ensures { result ≡ P.less_at w.now v (p + a) (q + a) (m - a) }
 {
     let mut s = v;
     let mut k = a;
@@ -69,7 +70,7 @@ fn less(w: &[f32], v: f32, p: usize, q: usize, a: usize, m: usize) -> f32
 // L(i,j), the next entry of row i, which stands from p on and starts at s.
 fn next_entry(w: &[f32], n: usize, f: &[usize; 384], i: usize, j: usize, s: usize, p: usize) -> f32
     requires { (i < n) × (j < i) × (need n ≤ length w.now) × (p ≡ i * n) }
-    ensures { result ≡ P.next_entry (was w) n (was f) i j s }
+    ensures { result ≡ P.next_entry w.now n f.now i j s }
 {
     let q = j * n;
     let v = w[q + i];
@@ -79,7 +80,7 @@ fn next_entry(w: &[f32], n: usize, f: &[usize; 384], i: usize, j: usize, s: usiz
 // Row i of L below the diagonal, from its start s on.
 fn row_from(w: &mut [f32], n: usize, f: &[usize; 384], i: usize, s: usize)
     requires { (i < n) × (need n ≤ length w.old) × (s ≡ first_of f.now i) }
-    ensures { became w ≡ P.row_from (was w) n (was f) i (i - s) }
+    ensures { w.new ≡ P.row_from w.old n f.now i (i - s) }
 {
     let p = i * n;
     let mut j = s;
@@ -92,7 +93,7 @@ fn row_from(w: &mut [f32], n: usize, f: &[usize; 384], i: usize, s: usize)
 // The pivot of row i, its products from a on.
 fn pivot_from(w: &[f32], n: usize, damping: f32, i: usize, a: usize) -> f32
     requires { (i < n) × (need n ≤ length w.now) }
-    ensures { result ≡ P.pivot_from (was w) n damping i a }
+    ensures { result ≡ P.pivot_from w.now n damping i a }
 {
     let p = i * n;
     less(w, w[p + i] + damping, p, p, a, i)
@@ -112,7 +113,7 @@ fn serves(p: f32) -> bool
 // L with its diagonal, row by row, up to a pivot that fails.
 fn factor(w: &mut [f32], n: usize, f: &[usize; 384], damping: f32) -> bool
     requires { need n ≤ length w.old }
-    ensures { (result, became w) ≡ P.rows_from (was w) n (was f) damping 0 n }
+    ensures { (result, w.new) ≡ P.rows_from w.old n f.now damping 0 n }
 {
     let mut i = 0usize;
     while i < n {
@@ -133,7 +134,7 @@ fn factor(w: &mut [f32], n: usize, f: &[usize; 384], damping: f32) -> bool
 // y(i)
 fn next_ahead(w: &[f32], n: usize, f: &[usize; 384], i: usize) -> f32
     requires { (i < n) × (need n ≤ length w.now) }
-    ensures { result ≡ P.next_ahead (was w) n (was f) i }
+    ensures { result ≡ P.next_ahead w.now n f.now i }
 {
     let d = n * n;
     let g = d + n;
@@ -150,7 +151,7 @@ fn next_ahead(w: &[f32], n: usize, f: &[usize; 384], i: usize) -> f32
 
 fn forward(w: &mut [f32], n: usize, f: &[usize; 384])
     requires { need n ≤ length w.old }
-    ensures { became w ≡ P.forward_from (was w) n (was f) n }
+    ensures { w.new ≡ P.forward_from w.old n f.now n }
 {
     let x = n * n + n + n;
     let mut i = 0usize;
@@ -162,7 +163,7 @@ fn forward(w: &mut [f32], n: usize, f: &[usize; 384])
 
 // Whether L(k,i) x(k) is left out of s: row k starts after i, so that it is ±0, and s is no zero.
 fn left_out(f: &[usize; 384], i: usize, s: f32, k: usize) -> bool
-    ensures { result ≡ P.left_out (was f) i s k }
+    ensures { result ≡ P.left_out f.now i s k }
 {
     if i < profile::first_of(f, k) {
         s != 0.0
@@ -174,7 +175,7 @@ fn left_out(f: &[usize; 384], i: usize, s: f32, k: usize) -> bool
 // s less L(k,i) x(k), where the step stands from x on
 fn next_below(w: &[f32], n: usize, f: &[usize; 384], i: usize, s: f32, k: usize, x: usize) -> f32
     requires { (i < k) × (k < n) × (need n ≤ length w.now) × (x ≡ n * n + n + n) }
-    ensures { result ≡ P.next_below (was w) n (was f) i s k }
+    ensures { result ≡ P.next_below w.now n f.now i s k }
 {
     if left_out(f, i, s, k) {
         return s;
@@ -185,7 +186,7 @@ fn next_below(w: &[f32], n: usize, f: &[usize; 384], i: usize, s: f32, k: usize,
 // x(i): for all k after i.
 fn back_from(w: &[f32], n: usize, f: &[usize; 384], i: usize, x: usize) -> f32
     requires { (i < n) × (need n ≤ length w.now) × (x ≡ n * n + n + n) }
-    ensures { result ≡ P.back_from (was w) n (was f) i }
+    ensures { result ≡ P.back_from w.now n f.now i }
 {
     let mut s = w[x + i];
     let mut k = i + 1usize;
@@ -198,7 +199,7 @@ fn back_from(w: &[f32], n: usize, f: &[usize; 384], i: usize, x: usize) -> f32
 
 fn backward(w: &mut [f32], n: usize, f: &[usize; 384])
     requires { need n ≤ length w.old }
-    ensures { became w ≡ P.backward_from (was w) n (was f) n }
+    ensures { w.new ≡ P.backward_from w.old n f.now n }
 {
     let x = n * n + n + n;
     let mut i = n;
@@ -211,7 +212,7 @@ fn backward(w: &mut [f32], n: usize, f: &[usize; 384])
 // Whether the m numbers from p on are finite.
 fn all_finite(w: &[f32], p: usize, m: usize) -> bool
     requires { p + m ≤ length w.now }
-    ensures { result ≡ every (λ k. finite (get_or (was w) (p + k) nan)) m }
+    ensures { result ≡ every (λ k. finite (get_or w.now (p + k) nan)) m }
 {
     let mut k = 0usize;
     while k < m {
@@ -228,7 +229,7 @@ fn all_finite(w: &[f32], p: usize, m: usize) -> bool
 // Whether there is a step: it then stands in its places. L's places are left as they come.
 fn solves(w: &mut [f32], n: usize, f: &[usize; 384], damping: f32) -> bool
     requires { need n ≤ length w.old }
-    ensures { (result, became w) ≡ P.solved_from (was w) n (was f) damping }
+    ensures { (result, w.new) ≡ P.solved_from w.old n f.now damping }
 {
     if !factor(w, n, f, damping) {
         return false;
@@ -247,7 +248,7 @@ fn to_clear(found: bool, n: usize) -> usize
 
 // The work w holds a system of n unknowns: its step for the damping.
 pub fn solve_damped(w: &mut [f32], n: usize, damping: f32) -> Solved
-    ensures { (result ≡ solved_as (was w) n damping) × (became w ≡ leaves (was w) n damping (solved_as (was w) n damping)) }
+    ensures { (result ≡ solved_as w.old n damping) × (w.new ≡ leaves w.old n damping (solved_as w.old n damping)) }
 {
     if !profile::has_room(w.len(), n) {
         return Solved::Short;

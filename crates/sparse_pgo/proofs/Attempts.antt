@@ -103,14 +103,14 @@ module _ {setup : Setup} {l : Links Edge} (st : State) {w32 w32' before : List F
 
   -- no step
   module _ (none : answer ≡ Step → ⊥) where
-    no_step : solved_as h.system n damping ≡ Step → ⊥
-    no_step q = none (said ∙ q)
+    no_step_lem : solved_as h.system n damping ≡ Step → ⊥
+    no_step_lem q = none (said ∙ q)
 
     unsolvable : is_solvable ≡ false
-    unsolvable = solved_none h.system n damping long no_step
+    unsolvable = solved_none h.system n damping long no_step_lem
 
     left_so : w32' ≡ work_after h.system n nothing
-    left_so = leaving ∙ ap (solves.leaves h.system n damping) (none_failed h.system n damping long no_step)
+    left_so = leaving ∙ ap (solves.leaves h.system n damping) (none_failed h.system n damping long no_step_lem)
 
     pub attempt_failed : length w32' ≡ need setup.n → Attempted setup l st before outcome.Failed w32' before
     unfolding parts_on numerics heard if_then

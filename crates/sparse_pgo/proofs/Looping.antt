@@ -86,8 +86,8 @@ module _ {setup : Setup} {l : Links Edge} {cost : Float} {first w32 w64 : List F
 
   module _ {w32' w64' : List Float} {r : Next} (h : Turned setup l s w64 r w32' w64') where
     -- what is held then
-    held_then : (t : State) → state_of r ≡ t → held_in setup w64' ≡ moved_on s t ((numerics (parts_in setup l)).moved (held_in setup w64) s.damping) (held_in setup w64)
-    held_then t e = h.held ∙ ap (λ (z : State). moved_on s z ((numerics (parts_in setup l)).moved (held_in setup w64) s.damping) (held_in setup w64)) e
+    held_then_lem : (t : State) → state_of r ≡ t → held_in setup w64' ≡ moved_on s t ((numerics (parts_in setup l)).moved (held_in setup w64) s.damping) (held_in setup w64)
+    held_then_lem t e = h.held ∙ ap (λ (z : State). moved_on s z ((numerics (parts_in setup l)).moved (held_in setup w64) s.damping) (held_in setup w64)) e
 
     module _ {t : State} (e : r ≡ next.On t) where
       pub turning_on : length w64' ≡ length w64 → Turning setup l cost first w32' w64' t
@@ -96,7 +96,7 @@ module _ {setup : Setup} {l : Links Edge} {cost : Float} {first w32 w64 : List F
             lent = record { sized = g.lent.sized; single = h.long; double = k ∙ g.lent.double };
             holds = h.holds t e;
             going =
-                rw (held_then t (ap state_of e))
+                rw (held_then_lem t (ap state_of e))
                 (going_on (numerics (parts_in setup l)) limit tolerance cost damping (held_in setup first) s (held_in setup w64) g.going t (sym h.answer ∙ e));
           }
 
@@ -108,5 +108,5 @@ module _ {setup : Setup} {l : Links Edge} {cost : Float} {first w32 w64 : List F
         let d = going_done (numerics (parts_in setup l)) limit tolerance cost damping (held_in setup first) s (held_in setup w64) g.going t e (sym h.answer ∙ q) in
         record {
           answer = ap (λ (y : Play (List Float)). y.next) (sym d);
-          held = held_then t (ap state_of q) ∙ ap (λ (y : Play (List Float)). y.held) (sym d);
+          held = held_then_lem t (ap state_of q) ∙ ap (λ (y : Play (List Float)). y.held) (sym d);
         }

@@ -51,9 +51,9 @@ module _ (limit : ℕ) (tolerance : Float) (s : State) where
   same_count : ltb s.accepted s.accepted ≡ false
   same_count = le-ltb s.accepted s.accepted (le_refl s.accepted)
 
-  one_more : s.accepted < 4294967295 → ltb s.accepted (one_more s.accepted) ≡ true
+  one_more_lem : s.accepted < 4294967295 → ltb s.accepted (one_more s.accepted) ≡ true
   unfolding one_more
-  one_more h =
+  one_more_lem h =
       let e : s.accepted + 1 ≡ if_then (eqb s.accepted 4294967295) s.accepted (s.accepted + 1) = left _ (ne_eqb s.accepted 4294967295 (λ e. omega arith)) refl in
       rw (← e) (lt-ltb s.accepted (s.accepted + 1) (omega arith))
 
@@ -61,7 +61,7 @@ module _ (limit : ℕ) (tolerance : Float) (s : State) where
   unfolding solved failing accepting rejecting
   accepts_more outcome.Failed h = both (More false) _ _ _ same_count same_count
   accepts_more outcome.Small h = same_count
-  accepts_more (outcome.Tried (trial.Accepted c)) h = both (More true) _ _ _ (one_more h) (one_more h)
+  accepts_more (outcome.Tried (trial.Accepted c)) h = both (More true) _ _ _ (one_more_lem h) (one_more_lem h)
   accepts_more (outcome.Tried (trial.Rejected w)) h = both (More false) _ _ _ same_count (both (More false) _ _ _ same_count same_count)
 
   -- on to the same system: nothing was accepted

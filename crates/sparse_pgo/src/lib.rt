@@ -1,7 +1,8 @@
 // The run over lent work (sparse_pose_graph_optimize), and its entry points for each manifold. work32 is the work of a solve; work64 holds the accepted
 // poses, then the trial's. Nothing is allocated.
+#![tactic(auto)]
+
 ghost use Rattle.std.specs.Prelude.{◌≡◌, ◌*◌, ◌<◌, length};
-ghost use Rattle.numbers.specs.Notation.{was, became};
 ghost use Rattle.decisions.specs.Run.{iterations};
 ghost use Rattle.profile.specs.Layout.{need};
 ghost use Rattle.sparse_pgo.specs.Parts.{has_converged, answer_after};
@@ -20,7 +21,7 @@ use rows::{Room, Settings};
 use solve::Solved;
 
 // A finished run: iterations are A + R; Gradient, Step and Cost have converged.
-#[derive(Drop)]
+#[derive(Clone, Copy)]
 pub struct Joined {
     pub iterations: u32,
     pub converged: bool,
@@ -32,14 +33,14 @@ pub struct Joined {
     pub why: Why,
 }
 
-#[derive(Drop)]
+#[derive(Clone, Copy)]
 pub enum Answer {
     Joined(Joined),
     Refused(Refusal),
 }
 
 // What the checks found and the caller set. Gravity is of unit length here; n is DOF times the free poses.
-#[derive(Drop)]
+#[derive(Clone, Copy)]
 pub struct Setup {
     pub manifold: Manifold,
     pub n: usize,
@@ -53,7 +54,7 @@ pub struct Setup {
 // What an assembly comes to: a gradient whose norm is below the tolerance has converged.
 fn assembly_of(setup: Setup, made: Assembled, w32: &[f32]) -> Assembly
     requires { Sized setup × (length w32.now ≡ need setup.n) }
-    ensures { result ≡ assembly_in setup made (was w32) }
+    ensures { result ≡ assembly_in setup made w32.now }
 {
     match made {
         Assembled::Bad { edge, why: _ } => Assembly::Refused(Refusal {
@@ -88,7 +89,7 @@ fn pass_top(
 ) -> Gate
     requires sized { Sized setup × (length w32.old ≡ need setup.n) }
     requires at_top { AtTop setup (links_in setup ends.now edges.now blocks.now) s poses.now w32.old }
-    ensures { PassedTop setup (links_in setup (was ends) (was edges) (was blocks)) s (was poses) result (became w32) }
+    ensures { PassedTop setup (links_in setup ends.now edges.now blocks.now) s poses.now result w32.new }
 {
     let fresh = s.fresh;
     if !fresh {
@@ -118,7 +119,7 @@ fn attempt(
 ) -> Outcome
     requires lent { Lent setup w32.old w64.old }
     requires holds { Holds setup (links_in setup ends.now edges.now blocks.now) (held_in setup w64.old) w32.old }
-    ensures { Attempted setup (links_in setup (was ends) (was edges) (was blocks)) s (was w64) result (became w32) (became w64) }
+    ensures { Attempted setup (links_in setup ends.now edges.now blocks.now) s w64.old result w32.new w64.new }
 {
     let n = setup.n;
     let Solved::Step = solve::solve_damped(w32, n, s.damping) else {
@@ -140,7 +141,7 @@ fn one_turn(
 ) -> Next
     requires lent { Lent setup w32.old w64.old × (s.accepted < 4294967295) }
     requires at_top { AtTop setup (links_in setup ends.now edges.now blocks.now) s (held_in setup w64.old) w32.old }
-    ensures { Turned setup (links_in setup (was ends) (was edges) (was blocks)) s (was w64) result (became w32) (became w64) }
+    ensures { Turned setup (links_in setup ends.now edges.now blocks.now) s w64.old result w32.new w64.new }
 {
     let half = setup.poses * 12;
     match pass_top(setup, ends, edges, blocks, s, &w64[..half], w32) {
@@ -199,7 +200,7 @@ fn started(
     w64: &mut [f64],
 ) -> Answer
     requires { Lent setup w32.old w64.old × Startable setup }
-    ensures { Started setup (links_in setup (was ends) (was edges) (was blocks)) (was w64) result (became w64) }
+    ensures { Started setup (links_in setup ends.now edges.now blocks.now) w64.old result w64.new }
 {
     let half = setup.poses * 12;
     let found = costs::active_total_squared_residual_cost(
@@ -244,8 +245,8 @@ fn begun(
 ) -> Answer
     requires lent { Lent setup w32.old w64.old × Startable setup }
     requires poses_len { (length poses.now ≡ setup.poses * 12) × (length out.old ≡ length poses.now) }
-    ensures { Begun setup (links_in setup (was ends) (was edges) (was blocks)) (was poses) (was w32) (was w64) (was out) result (became w32) (became w64)
-        (became out) }
+    ensures { Begun setup (links_in setup ends.now edges.now blocks.now) poses.now w32.old w64.old out.old result w32.new w64.new
+        out.new }
 {
     let half = setup.poses * 12;
     slices::copy64(poses, &mut w64[..half]);
@@ -270,8 +271,8 @@ pub fn sparse_pose_graph_optimize(
     work64: &mut [f64],
     out: &mut [f64],
 ) -> Answer
-    ensures { record { answer = result; work32 = became work32; work64 = became work64; out = became out }
-        ≡ optimized_on manifold (was poses) (was ends) (was edges) (was fixed) settings (was work32) (was work64) (was out) }
+    ensures { record { answer = result; work32 = work32.new; work64 = work64.new; out = out.new }
+        ≡ optimized_on manifold poses.now ends.now edges.now fixed.now settings work32.old work64.old out.old }
 {
     let room = Room {
         work32: work32.len(),
@@ -321,8 +322,8 @@ pub fn optimize(
     work64: &mut [f64],
     out: &mut [f64],
 ) -> Answer
-    ensures { record { answer = result; work32 = became work32; work64 = became work64; out = became out }
-        ≡ optimized_on Manifold.Se3 (was poses) (was ends) (was edges) (was fixed) settings (was work32) (was work64) (was out) }
+    ensures { record { answer = result; work32 = work32.new; work64 = work64.new; out = out.new }
+        ≡ optimized_on Manifold.Se3 poses.now ends.now edges.now fixed.now settings work32.old work64.old out.old }
 {
     sparse_pose_graph_optimize(
         Manifold::Se3,
@@ -349,8 +350,8 @@ pub fn optimize_with_gravity(
     work64: &mut [f64],
     out: &mut [f64],
 ) -> Answer
-    ensures { record { answer = result; work32 = became work32; work64 = became work64; out = became out }
-        ≡ optimized_on (Manifold.Gravity gravity) (was poses) (was ends) (was edges) (was fixed) settings (was work32) (was work64) (was out) }
+    ensures { record { answer = result; work32 = work32.new; work64 = work64.new; out = out.new }
+        ≡ optimized_on (Manifold.Gravity gravity) poses.now ends.now edges.now fixed.now settings work32.old work64.old out.old }
 {
     sparse_pose_graph_optimize(
         Manifold::Gravity(gravity),

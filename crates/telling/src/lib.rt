@@ -1,4 +1,6 @@
 // Answers as the numbers that a host program reads: arrays of what a layer, a run, a scan or a job comes to. Nothing is lent here.
+#![tactic(auto)]
+
 ghost use Rattle.std.specs.Prelude.{◌≡◌};
 ghost use Rattle.telling.specs.Telling.{quat_numbers, transform_numbers, place32, stop_number, flag, joined_eight, joined_costs};
 ghost use Rattle.telling.specs.Telling.{refused_eight, answer_eight};

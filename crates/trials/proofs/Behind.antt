@@ -11,7 +11,7 @@ use lib.ListN.{length, get_or, take, drop, length-append, length-drop, get_or-ap
 use lib.Seq.{ext_get_or, get_or-take, get_or-drop, get_or-append-add, length-take-le, take_all, drop-drop}
 use Rattle.numbers.specs.Walks.{table}
 use Rattle.numbers.proofs.Laying.{Laid}
-use Rattle.numbers.proofs.Parted.{part_from, with_part, part_from_lem, with_part}
+use Rattle.numbers.proofs.Parted.{part_from, with_part, part_from_lem, with_part_lem}
 use Rattle.numbers.proofs.Tables.{length_table, get_d_table}
 use Rattle.slices.specs.Slices.{copied}
 
@@ -50,7 +50,7 @@ module _ {A : Type 0} (d : A) (at : ℕ) (ns l : List A) (fits : at + length ns 
   copied_behind : (ys : List A) → ys ≡ copied ns (part_from at l) → with_part at l ys ≡ between at ns l
   copied_behind ys e =
       let k : length ns ≤ length (drop at l) = rw length-drop (omega arith) in
-      with_part at l ys
+      with_part_lem at l ys
       ∙ ap (λ (z : List A). take at l ++ z)
       (e ∙ ap (copied ns) (part_from_lem at l) ∙ ap (λ (z : List A). z ++ drop (length ns) (drop at l)) (take_all (length (drop at l)) ns k)
       ∙ ap (λ (z : List A). ns ++ z) (drop-drop (length ns) at l))

@@ -1,8 +1,9 @@
 // The trial of a step over lent numbers: the accepted poses stand first, the trial's behind them, twelve numbers a pose. Whatever is lent, each public
 // function has one answer and leaves one list.
+#![tactic(auto)]
+
 ghost use Rattle.std.specs.Prelude.{◌≡◌, ◌≤◌, ◌*◌, length, get_or};
 ghost use Rattle.std.specs.Float.{nan};
-ghost use Rattle.numbers.specs.Notation.{was, became};
 ghost use Rattle.graph.specs.Lent.{slot_in, lent_links};
 ghost use Rattle.trials.specs.Trials.{norm_of, part_of, taken_over, try_answers, try_leaves, trial_in};
 ghost use Rattle.trials.specs.forms.Passes.{Moves, Retracted, Evaluated};
@@ -17,7 +18,7 @@ const STEP_SIZE_TOLERANCE: f32 = 1e-6;
 
 // √ of the sum of squares, in f64. (The Rust's finite_l2_norm; that it is finite is a law.)
 pub fn l2_norm(v: &[f32]) -> f64
-    ensures { result ≡ norm_of (λ i. get_or (was v) i nan) (length (was v)) }
+    ensures { result ≡ norm_of (λ i. get_or v.now i nan) (length v.now) }
 {
     let mut sum = 0.0f64;
     let mut i = 0usize;
@@ -32,7 +33,7 @@ pub fn l2_norm(v: &[f32]) -> f64
 // The DOF numbers of block b of a step, then +0 up to six.
 fn delta_of(step: &[f32], dof: usize, b: usize) -> [f32; 6]
     requires { (dof ≤ 6) × (b ≤ 4294967296) }
-    ensures { result ≡ part_of dof (λ i. get_or (was step) i nan) b }
+    ensures { result ≡ part_of dof (λ i. get_or step.now i nan) b }
 {
     let mut delta = [0.0f32; 6];
     let mut j = 0usize;
@@ -44,7 +45,7 @@ fn delta_of(step: &[f32], dof: usize, b: usize) -> [f32; 6]
 }
 
 // A pose of a trial, and whether its retraction went well.
-#[derive(Drop)]
+#[derive(Clone, Copy)]
 struct TrialPose {
     pose: Pose,
     well: bool,
@@ -59,7 +60,7 @@ fn moved_pose(
     poses: &[f64],
     p: usize,
 ) -> TrialPose
-    ensures { Moves m (was poses) (λ i. get_or (was step) i nan) p (slot_in (was blocks) free p) result }
+    ensures { Moves m poses.now (λ i. get_or step.now i nan) p (slot_in blocks.now free p) result }
 {
     let pose = graph::pose_at(poses, p);
     let Slot::Block(b) = graph::slot_at(blocks, free, p) else {
@@ -77,7 +78,7 @@ fn moved_pose(
 
 // The trial's poses, each from the accepted one. Whether all retractions went well.
 fn retract_free(m: Manifold, blocks: &[u32; 256], free: u32, step: &[f32], w: &mut [f64]) -> bool
-    ensures { Retracted m (slot_in (was blocks) free) (λ i. get_or (was step) i nan) (was w) result (became w) }
+    ensures { Retracted m (slot_in blocks.now free) (λ i. get_or step.now i nan) w.old result w.new }
 {
     let n = w.len() / 24;
     let half = n * 12;
@@ -95,7 +96,7 @@ fn retract_free(m: Manifold, blocks: &[u32; 256], free: u32, step: &[f32], w: &m
 
 // The trial's poses become the accepted ones.
 fn accept(w: &mut [f64])
-    ensures { became w ≡ taken_over (was w) }
+    ensures { w.new ≡ taken_over w.old }
 {
     let half = (w.len() / 24) * 12;
     let mut i = 0usize;
@@ -116,7 +117,7 @@ fn evaluate_trial(
     step: &[f32],
     w: &mut [f64],
 ) -> Trial
-    ensures { Evaluated m (lent_links (was ends) (was edges) (was blocks) free) cost (λ i. get_or (was step) i nan) (was w) result (became w) }
+    ensures { Evaluated m (lent_links ends.now edges.now blocks.now free) cost (λ i. get_or step.now i nan) w.old result w.new }
 {
     if !retract_free(m, blocks, free, step, w) {
         return Trial::Rejected(Reason::Numerical(Numerical::Retraction));
@@ -140,8 +141,8 @@ pub fn try_step(
     step: &[f32],
     w: &mut [f64],
 ) -> Outcome
-    ensures value { result ≡ try_answers m (lent_links (was ends) (was edges) (was blocks) free) cost (was step) (was w) }
-    ensures w_value { became w ≡ try_leaves result (was w) (trial_in m (slot_in (was blocks) free) (λ i. get_or (was step) i nan) (was w)) }
+    ensures value { result ≡ try_answers m (lent_links ends.now edges.now blocks.now free) cost step.now w.old }
+    ensures w_value { w.new ≡ try_leaves result w.old (trial_in m (slot_in blocks.now free) (λ i. get_or step.now i nan) w.old) }
 {
     let norm = l2_norm(step);
     if norm < numbers::widen(STEP_SIZE_TOLERANCE) {

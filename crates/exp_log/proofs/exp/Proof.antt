@@ -1,5 +1,5 @@
 use mathlib.Core.Path.{refl, sym, ◌∙◌}
-use Rattle.exp_log.proofs.Steps.{turned_by, not_turned}
+use Rattle.exp_log.proofs.Steps.{turned_by_lem, not_turned}
 use Rattle.exp_log.specs.ExpLog.{exp_of}
 use borrow.Author.Rules.{rules}
 use Rattle.exp_log.proofs.exp.Statement.{statement}
@@ -24,7 +24,7 @@ moved-by-requires c κs = search rules
 returns-2 : tie.Need-returns-2
 unfolding exp_of
 returns-2 c =
-    turned_by _ _ c.before.before.q.given.0.0
+    turned_by_lem _ _ c.before.before.q.given.0.0
     (sym c.before.before.before.before.turn-of.ensures ∙ c.before.before.q.given.1)
     (rw c.moved_by.ensures)
 

@@ -3,7 +3,7 @@ use lib.ListN.{length}
 use borrow.Author.Tests.{ne_eqb}
 use Rattle.numbers.proofs.Choices.{left}
 use Rattle.exports.specs.Jobs.{read_out}
-use Rattle.exports.proofs.Jobs.{read_long, read_told}
+use Rattle.exports.proofs.Jobs.{read_long, read_told_lem}
 use Rattle.exports.proofs.pgo_read_job.Statement.{statement}
 use Rattle.exports.proofs.pgo_read_job.Tie as tie
 
@@ -58,7 +58,7 @@ returns-2 c =
     let at-read-answer = at-copy-counts.before.before.before in
     let at-read-job = at-read-answer.before.before.before.before.before.before.before.before.before in
     let at-if1 = at-read-job.before.before.before.before.before in
-    read_told _ _ _ at-if1.if1.false at-read-job.read-job.ensures at-read-answer.read_answer.ensures at-copy-counts.copy-counts.ensures
+    read_told_lem _ _ _ at-if1.if1.false at-read-job.read-job.ensures at-read-answer.read_answer.ensures at-copy-counts.copy-counts.ensures
     c.read_number.ensures
 
 pub pgo-read-job-spec : {M : Type 1} → statement M

@@ -23,7 +23,7 @@ joined-costs-requires : tie.Need-joined-costs-requires
 joined-costs-requires c κs = tt
 
 slice-aggregate-copy32 : tie.Need-slice-aggregate-copy32
-slice-aggregate-copy32 c = sym (ap length c.before.joined_costs_lem.ensures)
+slice-aggregate-copy32 c = sym (ap length c.before.joined_costs.ensures)
 
 copy32-requires : tie.Need-copy32-requires
 copy32-requires c κs = tt
@@ -47,7 +47,7 @@ returns c =
     let z = at-answer-eight.before.before.before in
     told_joined z.args.a z.args.answer.now z.args.costs.now z.requires.0 at-answer-eight.answer-eight.ensures
     at-copy-counts.copy-counts.ensures
-    at_a.a.given.1 z.requires.1 at-joined-costs.joined_costs_lem.ensures at-copy32.copy32.ensures
+    at_a.a.given.1 z.requires.1 at-joined-costs.joined_costs.ensures at-copy32.copy32.ensures
 
 same-length-3 : tie.Need-same-length-3
 same-length-3 c = c.before.before.before.before.before.copy-counts.auto.1.0

@@ -23,7 +23,7 @@ joined-costs-requires : tie.Need-joined-costs-requires
 joined-costs-requires c κs = tt
 
 slice-aggregate-copy32 : tie.Need-slice-aggregate-copy32
-slice-aggregate-copy32 c = sym (ap length c.before.joined_costs_lem.ensures)
+slice-aggregate-copy32 c = sym (ap length c.before.joined_costs.ensures)
 
 copy32-requires : tie.Need-copy32-requires
 copy32-requires c κs = tt
@@ -64,7 +64,7 @@ returns c =
     let a = z.args in
     closed_ran z.args.c a.answer.now a.costs.now a.measures.now z.requires.0 at-nine.nine-of.ensures
     at-copy-counts.copy-counts.ensures at_c.c.given.1
-    z.requires.1 at-joined-costs.joined_costs_lem.ensures at-copy32.copy32.ensures z.requires.2 at-measures-four.measures-four.ensures
+    z.requires.1 at-joined-costs.joined_costs.ensures at-copy32.copy32.ensures z.requires.2 at-measures-four.measures-four.ensures
     at-copy64.copy64.ensures
 
 same-length-4 : tie.Need-same-length-4

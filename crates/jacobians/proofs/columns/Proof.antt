@@ -53,7 +53,7 @@ returns c =
     let walk = c.before.before.before.before.before in
     let l = walk.before.loop in
     jacobian_stopped _ _ _ _ _ l.c walk.before.before.dof.ensures l.invariant.1
-    c.before.before.before.before.column.ensures c.before.before.why.given.1 walk.loop-test.true c.code_of_lem.ensures
+    c.before.before.before.before.column.ensures c.before.before.why.given.1 walk.loop-test.true c.code_of.ensures
 
 add-c : tie.Need-overflow-add-c invariant-loop decreases-loop
 add-c c = omega arith

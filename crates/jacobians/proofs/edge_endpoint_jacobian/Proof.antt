@@ -27,7 +27,7 @@ unfolding ratio of_bits
 returns c =
     let a = c.before.before.before.before.before.before.args in
     first_lost a.known.now a.x (dof_of a.m) a.l a.end c.before.before.before.before.first-probe.ensures
-    c.before.before.why.given.1 c.code_of_lem.ensures
+    c.before.before.why.given.1 c.code_of.ensures
 
 hinge-of-requires : tie.Need-hinge-of-requires
 hinge-of-requires c κs = search rules

@@ -2,13 +2,13 @@
 use mathlib.Core.Path.{sym}
 use native.Mathlib.Nat.{add-zero}
 use Rattle.numbers.specs.Notation.{if_then}
-use Rattle.job_records.proofs.Faults.{one_more}
+use Rattle.job_records.proofs.Faults.{one_more_lem}
 use borrow.Author.Rules.{rules}
-use Rattle.job_records.proofs.one_more.Statement.{statement}
-use Rattle.job_records.proofs.one_more.Tie as tie
+use Rattle.job_records.proofs.one_more_lem.Statement.{statement}
+use Rattle.job_records.proofs.one_more_lem.Tie as tie
 
 add-result : tie.Need-overflow-add-result
-add-result c = let z = c.before in let h = one_more z.args.t _ z.args.more c.if1.true z.requires in search rules
+add-result c = let z = c.before in let h = one_more_lem z.args.t _ z.args.more c.if1.true z.requires in search rules
 
 returns : tie.Need-returns
 unfolding if_then

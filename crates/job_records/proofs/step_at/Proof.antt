@@ -1,7 +1,7 @@
 -- `job_records::step_at` meets its contract, by one law of `Faults` for each return. Assumes nothing.
 use native.Mathlib.Omega.{arith}
 use mathlib.Core.Path.{sym, ◌∙◌}
-use Rattle.job_records.proofs.Faults.{cut_head, misplaced, cut_body, too_many, ended, onwards, count_fits}
+use Rattle.job_records.proofs.Faults.{cut_head, misplaced, cut_body, too_many_lem, ended, onwards, count_fits}
 use borrow.Author.Rules.{rules}
 use Rattle.job_records.proofs.step_at.Statement.{statement}
 use Rattle.job_records.proofs.step_at.Tie as tie
@@ -38,7 +38,7 @@ returns-2 c =
     let m = c.before.before in
     let v = m.before.before in
     misplaced _ _ _ _ _ v.before.before.before.left-from.ensures v.before.before.if1.false _ _ _ _
-    (v.before.pair-at.ensures, v.pair-at2.ensures, m.before.is-record.ensures, m.may_follow_lem.ensures)
+    (v.before.pair-at.ensures, v.pair-at2.ensures, m.before.is-record.ensures, m.may_follow.ensures)
     c.before.if2.true c.stop2.ensures
 
 stop-requires-3 : tie.Need-stop-requires-3
@@ -49,7 +49,7 @@ returns-3 c =
     let m = c.before.before.before in
     let v = m.before.before in
     cut_body _ _ _ _ _ v.before.before.before.left-from.ensures v.before.before.if1.false _ _ _ _
-    (v.before.pair-at.ensures, v.pair-at2.ensures, m.before.is-record.ensures, m.may_follow_lem.ensures)
+    (v.before.pair-at.ensures, v.pair-at2.ensures, m.before.is-record.ensures, m.may_follow.ensures)
     c.before.before.if2.false c.before.if3.true c.stop3.ensures
 
 is-full-requires : tie.Need-is-full-requires
@@ -62,8 +62,8 @@ returns-4 : tie.Need-returns-4
 returns-4 c =
     let m = c.before.before.before.before.before in
     let v = m.before.before in
-    too_many _ _ _ _ _ v.before.before.before.left-from.ensures v.before.before.if1.false _ _ _ _
-    (v.before.pair-at.ensures, v.pair-at2.ensures, m.before.is-record.ensures, m.may_follow_lem.ensures)
+    too_many_lem _ _ _ _ _ v.before.before.before.left-from.ensures v.before.before.if1.false _ _ _ _
+    (v.before.pair-at.ensures, v.pair-at2.ensures, m.before.is-record.ensures, m.may_follow.ensures)
     c.before.before.before.before.if2.false c.before.before.before.if3.false _ c.before.before.is-full.ensures c.before.if4.true
     c.stop4.ensures
 
@@ -78,7 +78,7 @@ returns-5 c =
     let m = c.before.before.before.before.before.before in
     let v = m.before.before in
     ended _ _ _ _ _ v.before.before.before.left-from.ensures v.before.before.if1.false _ _ _ _
-    (v.before.pair-at.ensures, v.pair-at2.ensures, m.before.is-record.ensures, m.may_follow_lem.ensures)
+    (v.before.pair-at.ensures, v.pair-at2.ensures, m.before.is-record.ensures, m.may_follow.ensures)
     c.before.before.before.before.before.if2.false c.before.before.before.before.if3.false _ c.before.before.before.is-full.ensures
     c.before.before.if4.false c.before.if5.true c.close.ensures
 
@@ -101,7 +101,7 @@ returns-6 c =
     let m = c.before.before.before.before.before.before in
     let v = m.before.before in
     onwards _ _ _ _ _ v.before.before.before.left-from.ensures v.before.before.if1.false _ _ _ _
-    (v.before.pair-at.ensures, v.pair-at2.ensures, m.before.is-record.ensures, m.may_follow_lem.ensures)
+    (v.before.pair-at.ensures, v.pair-at2.ensures, m.before.is-record.ensures, m.may_follow.ensures)
     c.before.before.before.before.before.if2.false c.before.before.before.before.if3.false _ c.before.before.before.is-full.ensures
     c.before.before.if4.false c.before.if5.false (rw c.count.ensures)
 

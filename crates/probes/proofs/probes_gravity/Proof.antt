@@ -11,7 +11,7 @@ probe-gravity-requires-2 c κs = search rules
 
 returns : tie.Need-returns
 unfolding probes_gravity
-returns c = rw (c.probe-gravity2.ensures, c.before.probe_gravity_lem.ensures)
+returns c = rw (c.probe-gravity2.ensures, c.before.probe_gravity.ensures)
 
 pub probes-gravity-spec : {M : Type 1} → statement M
 probes-gravity-spec = tie.close (tie.spec probe-gravity-requires probe-gravity-requires-2 returns)

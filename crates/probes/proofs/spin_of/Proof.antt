@@ -1,5 +1,5 @@
 use mathlib.Core.Path.{refl}
-use Rattle.exp_log.proofs.Steps.{turned_by, not_turned}
+use Rattle.exp_log.proofs.Steps.{turned_by_lem, not_turned}
 use Rattle.probes.specs.Stances.{spin_of}
 use borrow.Author.Rules.{rules}
 use Rattle.probes.proofs.spin_of.Statement.{statement}
@@ -32,7 +32,7 @@ unfolding spin_of
 returns-2 c =
     let p = c.before.before in
     let t = p.before.before.before.turn in
-    turned_by _ _ t.given.0.0 t.given.1
+    turned_by_lem _ _ t.given.0.0 t.given.1
     (rw (c.settled.ensures, c.before.mat3-to-f32.ensures, p.mat-product.ensures, p.before.matrix-of.ensures))
 
 pub spin-of-spec : {M : Type 1} → statement M

@@ -8,7 +8,7 @@ use Rattle.rotations.specs.Rotation.{times}
 use Rattle.exp_log.specs.ExpLog.{turn_of}
 use Rattle.pose_conversion.specs.Conversions.{finite_pose}
 use Rattle.retraction.specs.Retraction.{retract_gravity}
-use Rattle.exp_log.proofs.Steps.{turned_by, not_turned}
+use Rattle.exp_log.proofs.Steps.{turned_by_lem, not_turned}
 use Rattle.numbers.proofs.Steps.{both, passed, turned_away}
 use borrow.Author.Rules.{rules}
 use Rattle.retraction.proofs.retract_gravity.Statement.{statement}
@@ -78,7 +78,7 @@ returns-3 c =
     let x = q.before.before in
     let s = x.before.before.before in
     passed _ (tested s.before) s.if1.false
-    (turned_by _ _ q.q.given.0.0 (sym (turn x) ∙ q.q.given.1)
+    (turned_by_lem _ _ q.q.given.0.0 (sym (turn x) ∙ q.q.given.1)
     (rw (← c.before.before.centre-of.ensures, ← c.before.turned-pose.ensures) c.valid-pose.ensures))
 
 pub retract-gravity-spec : {M : Type 1} → statement M

@@ -14,7 +14,7 @@ returns : tie.Need-returns
 returns c = rw c.before.e.given.1
 
 returns-2 : tie.Need-returns-2
-returns-2 c = rw (c.before.before.e2.given.1, c.has_converged_lem.ensures)
+returns-2 c = rw (c.before.before.e2.given.1, c.has_converged.ensures)
 
 pub answer-of-spec : {M : Type 1} → statement M
 answer-of-spec = tie.close (tie.spec enum-known-e enum-known-e-2 has-converged-requires returns returns-2)
