@@ -6,35 +6,30 @@ use lib.Ieee.{nan, binary32, binary64, div, fits, of_bits, to_bits, of_fields}
 use lib.Ieee.Bits.{to_bits-lt}
 use Rattle.rounding.specs.Rounding.{rounded}
 use Rattle.numbers.proofs.Read.{by_fields, no_nan, is_nan_lem, no_nan_bits, bits_no_nan}
-use Rattle.rounding.proofs.narrow.Statement.{statement}
-use Rattle.rounding.proofs.narrow.Tie as tie
+use Rattle.rounding.proofs.narrow.Goals as goal
 
 nan_narrowed : div binary32 (of_bits binary32 0) (of_bits binary32 0) ≡ rounded binary32 nan
 unfolding div of_bits rounded
 nan_narrowed = refl
 
-returns : tie.Need-returns
-returns c = nan_narrowed ∙ ap (rounded binary32) (sym (is_nan_lem c.before.args.x c.if1.true))
+pub returns-then-x : goal.returns-then-x
+returns-then-x c = nan_narrowed ∙ ap (rounded binary32) (sym (is_nan_lem c.args.x c.if-x.true))
 
--- what owning an `f64` tells: the format holds it
-held : (c : tie.Start) → T (fits binary64 c.args.x)
-held c = subst T (sym c.well-formed.0.1) tt
+pub float_to_bits-b : goal.float_to_bits-b
+float_to_bits-b c = no_nan c.args.x c.if-x.false
 
-float-to-bits-b : tie.Need-float-to-bits-b
-float-to-bits-b c = no_nan c.before.args.x c.if1.false
+pub overflow_cast-sign : goal.overflow_cast-sign
+overflow_cast-sign c =
+    let held : T (fits binary64 c.args.x) = subst T (sym c.well_formed.0.1) tt in
+    omega (arith, to_bits-lt binary64 c.args.x (held))
 
-cast-sign : tie.Need-overflow-cast-sign
-cast-sign c = omega (arith, to_bits-lt binary64 c.before.args.x (held c.before))
+pub narrow_bits-mag-requires : goal.narrow_bits-mag-requires
+narrow_bits-mag-requires c =
+    let held : T (fits binary64 c.args.x) = subst T (sym c.well_formed.0.1) tt in
+    rw (and_mask (to_bits binary64 c.args.x) 63) (no_nan_bits binary64 c.args.x (held) (float_to_bits-b c))
 
-narrow-bits-requires : tie.Need-narrow-bits-requires
-narrow-bits-requires c κs =
-    rw (and_mask (to_bits binary64 c.before.args.x) 63) (no_nan_bits binary64 c.before.args.x (held c.before) (float-to-bits-b c))
-
-add-result : tie.Need-overflow-add-result
-add-result c = omega arith
-
-float-from-bits-result : tie.Need-float-from-bits-result
-float-from-bits-result c = bits_no_nan binary32 _ (omega arith)
+pub float_from_bits-result : goal.float_from_bits-result
+float_from_bits-result c = bits_no_nan binary32 _ (omega arith)
 
 sign : (b : ℕ) → b < 2 ^ 64 → b / 2 ^ 63 * 2 ^ 31 % 2 ^ 32 ≡ cond (leb (2 ^ 63) b) (2 ^ 31) 0
 sign b h = go (leb (2 ^ 63) b) (leb→le (2 ^ 63) b) (nleb→lt (2 ^ 63) b)
@@ -49,15 +44,13 @@ sign b h = go (leb (2 ^ 63) b) (leb→le (2 ^ 63) b) (nleb→lt (2 ^ 63) b)
     go true l g = one (l tt)
     go false l g = none (g tt)
 
-returns-2 : tie.Need-returns-2
-returns-2 c =
-    let x = c.before.before.args.x in
+pub returns : goal.returns
+returns c =
+    let held : T (fits binary64 c.args.x) = subst T (sym c.well_formed.0.1) tt in
+    let x = c.args.x in
     let b = to_bits binary64 x in
     let s = leb (2 ^ 63) b in
-    ap (λ (z : ℕ). of_bits binary32 (z + c.narrow-bits.result)) (sign b (to_bits-lt binary64 x (held c.before.before)))
-    ∙ c.narrow-bits.ensures.1 s
+    ap (λ (z : ℕ). of_bits binary32 (z + c.narrow_bits-mag.result)) (sign b (to_bits-lt binary64 x (held)))
+    ∙ c.narrow_bits-mag.ensures.1 s
     ∙ ap (λ (m : ℕ). rounded binary32 (of_fields binary64 s (m / 2 ^ 52) (m % 2 ^ 52))) (and_mask b 63)
-    ∙ ap (rounded binary32) (sym (by_fields binary64 x (held c.before.before)))
-
-pub narrow-spec : {M : Type 1} → statement M
-narrow-spec = tie.close (tie.spec returns float-to-bits-b cast-sign narrow-bits-requires add-result float-from-bits-result returns-2)
+    ∙ ap (rounded binary32) (sym (by_fields binary64 x (held)))
