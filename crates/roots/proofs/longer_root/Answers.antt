@@ -3,8 +3,7 @@ use Rattle.std.proofs.Common.{◌≡◌, ℕ, ◌+◌, ◌-◌, ◌*◌, ◌/◌
 use Rattle.roots.specs.Roots.{NearestRoot}
 use Rattle.roots.proofs.Rooting.{square_mono}
 use Rattle.roots.proofs.Lengthening.{c_le, longer_stays, longer_up}
-use Rattle.roots.proofs.longer_root.Statement.{statement}
-use Rattle.roots.proofs.longer_root.Tie as tie
+use Rattle.roots.proofs.longer_root.Goals as goal
 
 -- the code's words
 abbrev all : ℕ → ℕ
@@ -63,67 +62,48 @@ module _ (n over : ℕ) (L : 2 ^ 26 ≤ n) (U : n ≤ 2 ^ 27) (O : over ≤ 2 * 
   up : c * c + q + 0x4_0000_0000_0000 < excess → (m : ℕ) → n * n + over ≡ m + n → NearestRoot (m * 2 ^ 52) (q + 1)
   up h m x = longer_up n over (2 ^ 25) c d (omega arith) L O parts d_lt m q q_is x (omega (arith, excess_is))
 
--- in terms of what the function is called with
-sizes : (s : tie.Start) → Sizes s.args.r.n s.args.r.over
-sizes s = sized s.args.r.n s.args.r.over s.requires.0 s.requires.1 s.requires.2
+pub overflow_mul-excess : goal.overflow_mul-excess
+overflow_mul-excess c =
+    let sizes : Sizes c.args.r.n c.args.r.over = sized c.args.r.n c.args.r.over c.requires.0 c.requires.1 c.requires.2 in
+    let k = sizes in omega arith
 
-mul-twice : tie.Need-overflow-mul-twice
-mul-twice c = omega arith
+pub overflow_sub-excess : goal.overflow_sub-excess
+overflow_sub-excess c =
+    let sizes : Sizes c.args.r.n c.args.r.over = sized c.args.r.n c.args.r.over c.requires.0 c.requires.1 c.requires.2 in
+    (sizes).back
 
-div-c : tie.Need-nonzero-div-c
-div-c c = omega arith
+pub overflow_add-excess : goal.overflow_add-excess
+overflow_add-excess c =
+    let sizes : Sizes c.args.r.n c.args.r.over = sized c.args.r.n c.args.r.over c.requires.0 c.requires.1 c.requires.2 in
+    let k = sizes in omega arith
 
-mul-excess : tie.Need-overflow-mul-excess
-mul-excess c = let k = sizes c.before.before in omega arith
+pub overflow_add-q : goal.overflow_add-q
+overflow_add-q c =
+    let sizes : Sizes c.args.r.n c.args.r.over = sized c.args.r.n c.args.r.over c.requires.0 c.requires.1 c.requires.2 in
+    let k = sizes in omega arith
 
-sub-excess : tie.Need-overflow-sub-excess
-sub-excess c = (sizes c.before.before).back
+pub overflow_mul-c : goal.overflow_mul-c
+overflow_mul-c c =
+    let sizes : Sizes c.args.r.n c.args.r.over = sized c.args.r.n c.args.r.over c.requires.0 c.requires.1 c.requires.2 in
+    let k = sizes in omega arith
 
-add-excess : tie.Need-overflow-add-excess
-add-excess c = let k = sizes c.before.before in omega arith
+pub overflow_add-c : goal.overflow_add-c
+overflow_add-c c =
+    let sizes : Sizes c.args.r.n c.args.r.over = sized c.args.r.n c.args.r.over c.requires.0 c.requires.1 c.requires.2 in
+    let k = sizes in omega arith
 
-add-q : tie.Need-overflow-add-q
-add-q c = let k = sizes c.before.before.before in omega arith
+pub overflow_add-c-2 : goal.overflow_add-c-2
+overflow_add-c-2 c =
+    let sizes : Sizes c.args.r.n c.args.r.over = sized c.args.r.n c.args.r.over c.requires.0 c.requires.1 c.requires.2 in
+    let k = sizes in omega arith
 
-sub-q : tie.Need-overflow-sub-q
-sub-q c = omega arith
+pub overflow_add-result : goal.overflow_add-result
+overflow_add-result c =
+    let sizes : Sizes c.args.r.n c.args.r.over = sized c.args.r.n c.args.r.over c.requires.0 c.requires.1 c.requires.2 in
+    let k = sizes in omega arith
 
-mul-if1 : tie.Need-overflow-mul-if1
-mul-if1 c = let k = sizes c.before.before.before in omega arith
+pub returns-then-c-q : goal.returns-then-c-q
+returns-then-c-q c = up c.args.r.n c.args.r.over c.requires.0 c.requires.1 c.requires.2 c.if-c-q.true
 
-add-if1 : tie.Need-overflow-add-if1
-add-if1 c = let k = sizes c.before.before.before in omega arith
-
-add-if1-2 : tie.Need-overflow-add-if1-2
-add-if1-2 c = let k = sizes c.before.before.before in omega arith
-
-add-result : tie.Need-overflow-add-result
-add-result c = let k = sizes c.before.before.before.before in omega arith
-
-returns : tie.Need-returns
-returns c =
-    let s = c.before.before.before.before in
-    up s.args.r.n s.args.r.over s.requires.0 s.requires.1 s.requires.2 c.if1.true
-
-returns-2 : tie.Need-returns-2
-returns-2 c =
-    let s = c.before.before.before.before in
-    down s.args.r.n s.args.r.over s.requires.0 s.requires.1 s.requires.2 c.if1.false
-
-pub longer-root-spec : {M : Type 1} → statement M
-longer-root-spec =
-    tie.close
-    (tie.spec
-    mul-twice
-    div-c
-    mul-excess
-    sub-excess
-    add-excess
-    add-q
-    sub-q
-    mul-if1
-    add-if1
-    add-if1-2
-    add-result
-    returns
-    returns-2)
+pub returns-else-c-q : goal.returns-else-c-q
+returns-else-c-q c = down c.args.r.n c.args.r.over c.requires.0 c.requires.1 c.requires.2 c.if-c-q.false

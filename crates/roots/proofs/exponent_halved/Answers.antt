@@ -6,8 +6,7 @@ use lib.Bits.{bit_and, and_mask}
 use lib.Ieee.{Format, prec, emax, low, ones, hid, units, of_bits, of_fields}
 use Rattle.roots.specs.Roots.{root, NearestRoot}
 use Rattle.roots.proofs.Rooting.{near_le, near_ge, root_nearest, hid_is, bits_le, plain_bits, rooted_at}
-use Rattle.roots.proofs.exponent_halved.Statement.{statement}
-use Rattle.roots.proofs.exponent_halved.Tie as tie
+use Rattle.roots.proofs.exponent_halved.Goals as goal
 
 -- the code's odd and k
 abbrev odd : ℕ → ℕ → ℕ
@@ -30,8 +29,6 @@ whole a w h = rw (parity a w) (even a w h)
   where
     even : (a w : ℕ) → w < a → (a + w) % 2 + w + 2 * ((a - w - (a + w) % 2) / 2) ≡ a
     even a w h = omega arith
-
--- ---- the nearest root's bits
 
 module _ (q a w : ℕ) (lo : 2 ^ w ≤ q) (hi : q < 2 * 2 ^ w) (A : w < a) (n : ℕ) (N : NearestRoot (q * 2 ^ odd a w * 2 ^ w) n) where
   abbrev m : ℕ
@@ -98,26 +95,15 @@ module _ (q a w : ℕ) (lo : 2 ^ w ≤ q) (hi : q < 2 * 2 ^ w) (A : w < a) (n : 
           n N
           ∙ written
 
-unpacked-requires : tie.Need-unpacked-requires
-unpacked-requires c κs = search rules
+pub overflow_sub-result-2 : goal.overflow_sub-result-2
+overflow_sub-result-2 c = odd_in c.unpacked-s.result.a c.args.w c.unpacked-s.ensures.2
 
-add-odd : tie.Need-overflow-add-odd
-add-odd c = search rules
-
-sub-t6 : tie.Need-overflow-sub-t6
-sub-t6 c = search rules
-
-sub-t7 : tie.Need-overflow-sub-t7
-sub-t7 c = odd_in c.before.before.unpacked.result.a c.before.before.before.args.w c.before.before.unpacked.ensures.2
-
-returns : tie.Need-returns
+pub returns : goal.returns
 returns c =
-    let u = c.before.before.unpacked in
-    let s = c.before.before.before in
-    let w = s.args.w in
-    let q = u.result.q in
-    let a = u.result.a in
-    let k = u.ensures in (
+    let w = c.args.w in
+    let q = c.unpacked-s.result.q in
+    let a = c.unpacked-s.result.a in
+    let k = c.unpacked-s.ensures in (
       k.0,
       k.1,
       odd_le a w,
@@ -125,11 +111,8 @@ returns c =
       λ f P L O n N.
           let r = k.4 f P L O in (
             bound q a w k.0 k.1 k.2 n N f P r.0,
-            rooted_at f (of_fields f false (s.args.b / 2 ^ w) (s.args.b % 2 ^ w)) (q * 2 ^ a) (2 ^ (2 * s.args.least)) (of_bits f (half a w * 2 ^ w + n))
+            rooted_at f (of_fields f false (c.args.b / 2 ^ w) (c.args.b % 2 ^ w)) (q * 2 ^ a) (2 ^ (2 * c.args.least)) (of_bits f (half a w * 2 ^ w + n))
                 (mul-pos (lt_of_lt_of_le (pow_pos w) k.0) (pow_pos a)) r.1
                 (λ num den D M. rooted_bits q a w k.0 k.1 k.2 n N f P r.0 num den D (ap (λ (x : ℕ). num * 2 ^ (2 * x)) L ∙ M)),
           ),
     )
-
-pub exponent-halved-spec : {M : Type 1} → statement M
-exponent-halved-spec = tie.close (tie.spec unpacked-requires add-odd sub-t6 sub-t7 returns)
