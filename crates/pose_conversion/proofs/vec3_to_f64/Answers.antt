@@ -1,0 +1,6 @@
+use Rattle.pose_conversion.specs.Conversions.{vec_f64}
+use Rattle.pose_conversion.proofs.vec3_to_f64.Goals as goal
+
+pub returns : goal.returns
+unfolding vec_f64
+returns c = rw (c.widen-3.ensures, c.widen-2.ensures, c.widen.ensures)
