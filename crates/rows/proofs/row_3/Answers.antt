@@ -1,0 +1,6 @@
+use Rattle.rows.specs.Tests.{too_many}
+use Rattle.rows.proofs.row_3.Goals as goal
+
+pub returns : goal.returns
+unfolding too_many
+returns c = rw c.asked.ensures
