@@ -1,0 +1,27 @@
+use Prim.Native.Nat.{◌-◌}
+use native.Mathlib.Omega.{arith}
+use mathlib.Core.Path.{◌≡◌, refl, sym, ◌∙◌}
+use lib.ListN.{length}
+use Rattle.numbers.specs.Walks.{strung}
+use Rattle.job.proofs.Pasting.{pasted_none}
+use Rattle.job.proofs.Writing.{turn_fits, number_put}
+use Rattle.job.proofs.put64.Goals as goal
+
+pub loop-i-init : goal.loop-i-init
+unfolding strung
+loop-i-init c = (omega arith, refl, sym (pasted_none _ _))
+
+pub loop-i-preserved : goal.loop-i-preserved
+loop-i-preserved c =
+    let a = c.args in
+    let f = turn_fits 8 c.loop-i.i a.n a.at (length a.out.now) c.loop-i-test.true c.requires.0 in (
+      f.0,
+      c.put.auto.out ∙ c.loop-i.invariant.1,
+      c.put.ensures ∙ number_put 8 c.loop-i.i a.at a.from a.ns.now c.loop-i.out a.out.now f.1 c.loop-i.invariant.2,
+    )
+
+pub returns : goal.returns
+returns c =
+    let a = c.args in
+    let e : c.loop-i.i ≡ a.n = omega arith in
+    rw e at c.loop-i.invariant.2
