@@ -1,0 +1,11 @@
+use Rattle.solve.specs.Rule.{serves}
+use Rattle.profile.proofs.Zeros.{literal_zero}
+use Rattle.solve.proofs.serves.Goals as goal
+
+pub returns-then-p : goal.returns-then-p
+unfolding serves
+returns-then-p c = rw (← literal_zero, c.if-p.true) c.is_finite32.ensures
+
+pub returns-else-p : goal.returns-else-p
+unfolding serves
+returns-else-p c = rw (← literal_zero, c.if-p.false)
