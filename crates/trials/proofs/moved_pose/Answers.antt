@@ -1,0 +1,33 @@
+use mathlib.Core.Path.{◌∙◌, sym}
+use native.Mathlib.Omega.{arith}
+use lib.ListN.{get_or}
+use lib.Ieee.{nan}
+use Rattle.graph.proofs.Degrees.{dof_most}
+use Rattle.trials.proofs.Steps.{slot_below}
+use Rattle.trials.proofs.Poses.{moves_fixed, moves_into, moves_bad}
+use Rattle.trials.proofs.moved_pose.Goals as goal
+
+pub returns-in_default : goal.returns-in_default
+returns-in_default c =
+    let a = c.args in
+    moves_fixed a.m a.poses.now (λ i. get_or a.step.now i nan) a.p c.pose_at-pose.ensures (sym c.slot_at.ensures ∙ c.in_default.is)
+
+pub delta_of-delta-requires : goal.delta_of-delta-requires
+delta_of-delta-requires c =
+    let a = c.args in
+    let below = slot_below a.blocks.now a.free a.p _ (sym c.slot_at.ensures ∙ c.in-Block.is) in
+    let free = c.ranges.free in
+    (rw c.dof.ensures (dof_most a.m), omega arith)
+
+pub returns-in-Into : goal.returns-in-Into
+returns-in-Into c =
+    let a = c.args in
+    moves_into a.m a.poses.now (λ i. get_or a.step.now i nan) a.p c.pose_at-pose.ensures (sym c.slot_at.ensures ∙ c.in-Block.is)
+    c.dof.ensures c.delta_of-delta.ensures
+    (sym c.retract.ensures ∙ c.in-Into.is)
+
+pub returns-in-Bad : goal.returns-in-Bad
+returns-in-Bad c =
+    let a = c.args in
+    moves_bad a.m a.poses.now (λ i. get_or a.step.now i nan) a.p c.pose_at-pose.ensures (sym c.slot_at.ensures ∙ c.in-Block.is)
+    c.dof.ensures c.delta_of-delta.ensures (sym c.retract.ensures ∙ c.in-Bad.is)
