@@ -1,9 +1,11 @@
 // What programs read: standard input up to as many bytes as can matter, and a read that failed told from the end of the input.
 #![tactic(auto)]
 
+ghost use Rattle.std.specs.Prelude.{◌≡◌, ◌<◌, false, length, take};
 ghost use Rattle.io.specs.Counts.{IsPrefixLen};
+ghost use Rattle.std.specs.Io.KnownBytes.{Consumes, IsAtEnd};
 
-use libc::STDIN_FILENO;
+use std::io::Read;
 
 // How many bytes were read, and whether a read failed.
 #[derive(Clone, Copy)]
@@ -12,27 +14,32 @@ pub struct Intake {
     pub failed: bool,
 }
 
-// Reads into the start of buf until it is full, the input ends or a read fails. No contract can say which bytes were read.
-pub fn read_input(buf: &mut [u8]) -> Intake
-    ensures { IsPrefixLen result.bytes buf.new }
+// Reads into the start of buf until it is full, the input ends or a read fails. Of a reader whose bytes are known these are its next ones; a read that failed
+// is told from the end of the input. No contract can say which bytes the system gives.
+pub fn read_input<R: Read>(from: &mut R, buf: &mut [u8]) -> Intake
+    ensures in_bounds { IsPrefixLen result.bytes buf.new }
+    ensures bytes { Consumes (R.remaining from.old) (R.remaining from.new) (take result.bytes buf.new) }
+    ensures end { result.failed ≡ false → result.bytes < length buf.new → IsAtEnd (R.remaining from.new) }
 {
     let mut n = 0usize;
     while n < buf.len() {
-        let got = libc::read(STDIN_FILENO, &mut buf[n..]);
-        if got < 0 {
-            return Intake {
-                bytes: n,
-                failed: true,
-            };
+        match from.read(&mut buf[n..]) {
+            Err(_) => {
+                return Intake {
+                    bytes: n,
+                    failed: true,
+                };
+            }
+            Ok(more) => {
+                if more == 0 {
+                    return Intake {
+                        bytes: n,
+                        failed: false,
+                    };
+                }
+                n += more;
+            }
         }
-        let more = io::count(got, &buf[n..]);
-        if more == 0 {
-            return Intake {
-                bytes: n,
-                failed: false,
-            };
-        }
-        n += more;
     }
     Intake {
         bytes: n,

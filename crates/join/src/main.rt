@@ -2,28 +2,27 @@
 // output; the line goes to standard error, and a second one there says whether it may be printed.
 #![tactic(auto)]
 
-use libc::{STDERR_FILENO, STDOUT_FILENO};
-
-fn join(bytes: &[u8]) {
+fn join(rt: &HostRuntime, bytes: &[u8]) {
     let mut out = join_job::full_output();
     let j = join_job::join(bytes, &mut out);
     let n = j.bytes;
     let r = j.report;
-    if io::write_all(STDOUT_FILENO, &out[..n]) {
-        line::say(STDERR_FILENO, join_job::said(r));
-        line::say(STDERR_FILENO, join_job::second_said(r));
+    let mut errors = rt.stderr();
+    if rt.write_all(&out[..n]).is_ok() {
+        line::say(&mut errors, join_job::said(r));
+        line::say(&mut errors, join_job::second_said(r));
     } else {
-        line::say(STDERR_FILENO, line::unwritten());
+        line::say(&mut errors, line::unwritten());
     }
 }
 
-fn main() {
+fn main(rt: HostRuntime) {
     let mut bytes = join_job::full_input();
-    let got = input::read_input(&mut bytes);
+    let got = input::read_input(&mut rt.stdin(), &mut bytes);
     if got.failed {
-        line::say(STDERR_FILENO, line::unreadable());
+        line::say(&mut rt.stderr(), line::unreadable());
         return;
     }
     let n = got.bytes;
-    join(&bytes[..n]);
+    join(&rt, &bytes[..n]);
 }

@@ -1,10 +1,13 @@
 // What programs say, as lines by value: texts, numbers in decimal, floats with six digits, and the lines of a job's run (document 02, Wishes 1 and 2).
 #![tactic(auto)]
 
-ghost use Rattle.std.specs.Prelude.{◌≡◌, ◌+◌, ◌%◌, ◌<◌, ◌≤◌};
+ghost use Rattle.std.specs.Prelude.{◌≡◌, ◌+◌, ◌%◌, ◌<◌, ◌≤◌, OnOk, length, take};
 ghost use Rattle.line.specs.FloatText.{raised, lowered, repeated, scaled_of, whole_part, rounded_six, digits_text};
 ghost use Rattle.line.specs.FloatText.{pointed, plain_text, power_text, six_text, size_text, float_text};
 ghost use Rattle.line.specs.Text.{decimal, ran_text, refused_text, unreadable_text, unwritten_text, yes_no, empty as Text·empty, with_byte, with_text, line_of};
+ghost use Rattle.std.specs.Io.KnownBytes.{Appends};
+
+use std::io::Write;
 
 // The first `used` bytes are the text.
 #[derive(Clone, Copy)]
@@ -300,14 +303,18 @@ pub fn unwritten() -> Line
     with_text(empty(), b"can't write the output\n")
 }
 
-fn write(fd: i32, bytes: &[u8], used: usize) {
+// Where it answers Ok, a writer whose bytes are known has these behind what it had.
+fn write<W: Write>(out: &mut W, bytes: &[u8], used: usize) -> std::io::Result<()>
+    ensures { OnOk result (used ≤ length bytes.now → Appends (W.contents out.old) (W.contents out.new) (take used bytes.now)) }
+{
     if used <= bytes.len() {
-        io::write_all(fd, &bytes[..used]);
+        out.write_all(&bytes[..used])?;
     }
+    Ok(())
 }
 
-// Writes the line to a descriptor. No contract can say what is written.
-pub fn say(fd: i32, l: Line) {
+// Writes the line to a writer, as standard output; a write that fails is let pass. No contract can say what the system takes of it.
+pub fn say<W: Write>(out: &mut W, l: Line) {
     let bytes = l.bytes;
-    write(fd, &bytes, l.used);
+    let _ = write(out, &bytes, l.used);
 }

@@ -13,6 +13,7 @@ mod systems;
 ghost use Rattle.std.specs.Prelude.{◌≤◌, length};
 
 use say::Tally;
+use std::io::{Read, Write};
 
 // `PGOV` and version 1.
 fn is_headed(file: &[u8]) -> bool {
@@ -66,7 +67,7 @@ struct Counted {
 }
 
 // Whole where the items fill the record.
-fn items(kind: u32, b: &[u8], before: Tally) -> Counted {
+fn items<W: Write>(out: &mut W, kind: u32, b: &[u8], before: Tally) -> Counted {
     let n = bytes::u32_at(b, 0, 0);
     let mut tally = before;
     if b.len() < 4 {
@@ -85,7 +86,7 @@ fn items(kind: u32, b: &[u8], before: Tally) -> Counted {
                 tally,
             };
         }
-        tally = say::counted(tally, kind, same_item(kind, &b[at..]));
+        tally = say::counted(out, tally, kind, same_item(kind, &b[at..]));
         at += size;
         k += 1;
     }
@@ -169,9 +170,9 @@ fn record_at(file: &[u8], at: usize) -> Record
 }
 
 // Whole where the record could be read.
-fn replayed(kind: u32, b: &[u8], before: Tally) -> Counted {
+fn replayed<W: Write>(out: &mut W, kind: u32, b: &[u8], before: Tally) -> Counted {
     if (16 <= kind) & (kind <= 27) {
-        return items(kind, b, before);
+        return items(out, kind, b, before);
     }
     if !is_whole(kind, b) {
         return Counted {
@@ -179,11 +180,11 @@ fn replayed(kind: u32, b: &[u8], before: Tally) -> Counted {
             tally: before,
         };
     }
-    let tally = say::counted(before, kind, same_record(kind, b));
+    let tally = say::counted(out, before, kind, same_record(kind, b));
     Counted { whole: true, tally }
 }
 
-fn records(file: &[u8]) -> Counted {
+fn records<W: Write>(out: &mut W, file: &[u8]) -> Counted {
     let n = bytes::u32_at(file, 8, 0);
     let mut tally = say::nothing();
     let mut at = 12usize;
@@ -194,17 +195,17 @@ fn records(file: &[u8]) -> Counted {
         let to = record.to;
         let there = record.whole;
         if !there {
-            say::cut_short(r);
+            say::cut_short(out, r);
             return Counted {
                 whole: false,
                 tally,
             };
         }
-        let c = replayed(record.kind, &file[from..to], tally);
+        let c = replayed(out, record.kind, &file[from..to], tally);
         tally = c.tally;
         let known = c.whole;
         if !known {
-            say::unknown(r);
+            say::unknown(out, r);
             return Counted {
                 whole: false,
                 tally,
@@ -214,7 +215,7 @@ fn records(file: &[u8]) -> Counted {
         r += 1;
     }
     if at != file.len() {
-        say::left_over();
+        say::left_over(out);
         return Counted {
             whole: false,
             tally,
@@ -223,26 +224,26 @@ fn records(file: &[u8]) -> Counted {
     Counted { whole: true, tally }
 }
 
-fn replay(file: &[u8]) {
+fn replay<W: Write>(out: &mut W, file: &[u8]) {
     if !is_headed(file) {
-        say::no_list();
+        say::no_list(out);
         return;
     }
-    let c = records(file);
+    let c = records(out, file);
     let whole = c.whole;
     if whole {
         let tally = c.tally;
-        say::report(tally);
+        say::report(out, tally);
     }
 }
 
-fn replay_input(file: &mut [u8]) {
-    let n = io::read_full(libc::STDIN_FILENO, file);
-    replay(&file[..n]);
+fn replay_input<R: Read, W: Write>(from: &mut R, out: &mut W, file: &mut [u8]) {
+    let n = input::read_input(from, file).bytes;
+    replay(out, &file[..n]);
 }
 
 // No list is longer.
-fn main() {
+fn main(rt: HostRuntime) {
     let mut file = [0u8; 400000];
-    replay_input(&mut file);
+    replay_input(&mut rt.stdin(), &mut rt.stdout(), &mut file);
 }

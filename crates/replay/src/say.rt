@@ -1,5 +1,5 @@
 // Counts of cases, and lines for a person.
-use libc::STDOUT_FILENO;
+use std::io::Write;
 
 // By kind: how many cases there were, and how many differed.
 #[derive(Clone, Copy)]
@@ -15,12 +15,12 @@ pub fn nothing() -> Tally {
     }
 }
 
-fn text(s: &[u8]) {
-    io::write_all(STDOUT_FILENO, s);
+fn text<W: Write>(out: &mut W, s: &[u8]) {
+    let _ = out.write_all(s);
 }
 
-fn number(n: u32) {
-    io::print_decimal(STDOUT_FILENO, n as u64);
+fn number<W: Write>(out: &mut W, n: u32) {
+    let _ = write!(out, "{n}");
 }
 
 // Where the name of each kind starts among the names; it ends where the next starts.
@@ -29,32 +29,33 @@ const STARTS: [usize; 33] = [
     77, 84, 104, 112, 117, 117, 117, 117, 117,
 ];
 
-fn part(s: &[u8], from: usize, to: usize) {
+fn part<W: Write>(out: &mut W, s: &[u8], from: usize, to: usize) {
     if from <= to {
         if to <= s.len() {
-            text(&s[from..to]);
+            text(out, &s[from..to]);
         }
     }
 }
 
-fn name(kind: u32) {
+fn name<W: Write>(out: &mut W, kind: u32) {
     let k = (kind % 32) as usize;
     part(
+        out,
         b"runsassemblieslistsnarrowsqrt32sqrt64quaternion_of_matrixproductinverseexplogretractretract_with_gravityresidualsolve",
         STARTS[k],
         STARTS[k + 1],
     );
 }
 
-fn differs(kind: u32, case: u32) {
-    name(kind);
-    text(b": case ");
-    number(case);
-    text(b" differs\n");
+fn differs<W: Write>(out: &mut W, kind: u32, case: u32) {
+    name(out, kind);
+    text(out, b": case ");
+    number(out, case);
+    text(out, b" differs\n");
 }
 
 // A case that differs is named by its number among those of its kind, from 0 on.
-pub fn counted(t: Tally, kind: u32, same: bool) -> Tally {
+pub fn counted<W: Write>(out: &mut W, t: Tally, kind: u32, same: bool) -> Tally {
     let k = (kind % 32) as usize;
     let mut cases = t.cases;
     let mut differing = t.differing;
@@ -62,55 +63,58 @@ pub fn counted(t: Tally, kind: u32, same: bool) -> Tally {
     cases[k] = decisions::one_more(n);
     if !same {
         differing[k] = decisions::one_more(differing[k]);
-        differs(kind, n);
+        differs(out, kind, n);
     }
     Tally { cases, differing }
 }
 
 // ---- bad input
 
-fn bad_record(record: u32, how: &[u8]) {
-    text(b"bad input: record ");
-    number(record);
-    text(how);
+fn bad_record<W: Write>(out: &mut W, record: u32, how: &[u8]) {
+    text(out, b"bad input: record ");
+    number(out, record);
+    text(out, how);
 }
 
-pub fn cut_short(record: u32) {
-    bad_record(record, b" is cut short\n");
+pub fn cut_short<W: Write>(out: &mut W, record: u32) {
+    bad_record(out, record, b" is cut short\n");
 }
 
-pub fn unknown(record: u32) {
-    bad_record(record, b" is of no known form\n");
+pub fn unknown<W: Write>(out: &mut W, record: u32) {
+    bad_record(out, record, b" is of no known form\n");
 }
 
-pub fn left_over() {
-    text(b"bad input: bytes follow the last record\n");
+pub fn left_over<W: Write>(out: &mut W) {
+    text(out, b"bad input: bytes follow the last record\n");
 }
 
-pub fn no_list() {
-    text(b"bad input: it does not begin as a list of version 1\n");
+pub fn no_list<W: Write>(out: &mut W) {
+    text(
+        out,
+        b"bad input: it does not begin as a list of version 1\n",
+    );
 }
 
 // ---- the report
 
-fn line(kind: u32, cases: u32, differing: u32) {
+fn line<W: Write>(out: &mut W, kind: u32, cases: u32, differing: u32) {
     if cases == 0 {
         return;
     }
-    name(kind);
-    text(b" ");
-    number(cases);
-    text(b", differing ");
-    number(differing);
-    text(b"\n");
+    name(out, kind);
+    text(out, b" ");
+    number(out, cases);
+    text(out, b", differing ");
+    number(out, differing);
+    text(out, b"\n");
 }
 
-pub fn report(t: Tally) {
+pub fn report<W: Write>(out: &mut W, t: Tally) {
     let cases = t.cases;
     let differing = t.differing;
     let mut k = 0usize;
     while k < 32 {
-        line(k as u32, cases[k], differing[k]);
+        line(out, k as u32, cases[k], differing[k]);
         k += 1;
     }
 }

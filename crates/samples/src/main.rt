@@ -13,6 +13,7 @@ use keyframes::Scan;
 use pose_graph::{Closed, PgoConfig};
 use rows::Settings;
 use sparse_pgo::Answer;
+use std::io::Write;
 
 fn settings(limit: u32, gradient_tolerance: f32) -> Settings {
     Settings {
@@ -89,18 +90,35 @@ fn two_poses(x: f32, weight: f32, s: Settings) -> Answer {
     run_on(Manifold::Se3, in_a_line(x, weight), 2, 1, &[0], s)
 }
 
-fn measured() {
-    say::answer(b"two poses, measured (1,0,0)", two_poses(1.0, 1.0, usual()));
-    say::answer(b"two poses, measured (2,0,0)", two_poses(2.0, 1.0, usual()));
+fn measured<W: Write>(out: &mut W) {
     say::answer(
+        out,
+        b"two poses, measured (1,0,0)",
+        two_poses(1.0, 1.0, usual()),
+    );
+    say::answer(
+        out,
+        b"two poses, measured (2,0,0)",
+        two_poses(2.0, 1.0, usual()),
+    );
+    say::answer(
+        out,
         b"two poses, measured (2,0,0), weight 0.5",
         two_poses(2.0, 0.5, usual()),
     );
 }
 
-fn limits() {
-    say::answer(b"limit 1000", two_poses(2.0, 1.0, settings(1000, 1e-6)));
-    say::answer(b"limit 1001", two_poses(2.0, 1.0, settings(1001, 1e-6)));
+fn limits<W: Write>(out: &mut W) {
+    say::answer(
+        out,
+        b"limit 1000",
+        two_poses(2.0, 1.0, settings(1000, 1e-6)),
+    );
+    say::answer(
+        out,
+        b"limit 1001",
+        two_poses(2.0, 1.0, settings(1001, 1e-6)),
+    );
 }
 
 // The two poses over lent work. One free pose: n is 6, so 6 * 9 f32 numbers are needed; two poses: 24 * 2 f64 numbers.
@@ -117,21 +135,22 @@ fn over(w32: &mut [f32], w64: &mut [f64]) -> Answer {
     )
 }
 
-fn works() {
+fn works<W: Write>(out: &mut W) {
     let mut exact32 = [0.0f32; 54];
     let mut exact64 = [0.0f64; 48];
     let a = over(&mut exact32, &mut exact64);
-    say::answer(b"work of 54 f32 and 48 f64, exact", a);
+    say::answer(out, b"work of 54 f32 and 48 f64, exact", a);
     let mut short32 = [0.0f32; 53];
     let a = over(&mut short32, &mut exact64);
-    say::answer(b"work of 53 f32 and 48 f64, one short", a);
+    say::answer(out, b"work of 53 f32 and 48 f64, one short", a);
     let mut short64 = [0.0f64; 47];
     let a = over(&mut exact32, &mut short64);
-    say::answer(b"work of 54 f32 and 47 f64, one short", a);
+    say::answer(out, b"work of 54 f32 and 47 f64, one short", a);
 }
 
-fn zero_weights() {
+fn zero_weights<W: Write>(out: &mut W) {
     say::answer(
+        out,
         b"weight 0, gradient tolerance 0",
         two_poses(2.0, 0.0, settings(30, 0.0)),
     );
@@ -145,23 +164,29 @@ fn far_pose(from: u32) -> Graph {
     g
 }
 
-fn far_poses() {
+fn far_poses<W: Write>(out: &mut W) {
     say::answer(
+        out,
         b"a pose at 1e300, named by active edge 1",
         run(far_pose(1), 3, 2, &[0]),
     );
-    say::answer(b"a pose at 1e300, in no edge", run(far_pose(1), 3, 1, &[0]));
     say::answer(
+        out,
+        b"a pose at 1e300, in no edge",
+        run(far_pose(1), 3, 1, &[0]),
+    );
+    say::answer(
+        out,
         b"a pose at 1e300, fixed, in an edge of fixed ends",
         run(far_pose(0), 3, 2, &[0, 2]),
     );
 }
 
 // Pose 0 fixed; edges measured one and a half.
-fn many_free() {
+fn many_free<W: Write>(out: &mut W) {
     let g = in_a_line(1.5, 1.0);
-    say::answer(b"64 free poses in a line", run(g, 65, 64, &[0]));
-    say::answer(b"65 free poses in a line", run(g, 66, 65, &[0]));
+    say::answer(out, b"64 free poses in a line", run(g, 65, 64, &[0]));
+    say::answer(out, b"65 free poses in a line", run(g, 66, 65, &[0]));
 }
 
 // ---- a ring that does not close
@@ -178,14 +203,16 @@ fn ring() -> Graph {
     graphs::with_edge(g, 49, 49, 0, closing)
 }
 
-fn rings() {
+fn rings<W: Write>(out: &mut W) {
     let g = ring();
     say::answer(
+        out,
         b"a ring of 50 views that does not close",
         run(g, 50, 50, &[0]),
     );
     let down = Manifold::Gravity(graphs::vec(0.0, 0.0, -9.81));
     say::answer(
+        out,
         b"the same ring, with gravity",
         run_on(down, g, 50, 50, &[0], usual()),
     );
@@ -211,28 +238,33 @@ fn two_passes(weight: f32) -> Graph {
     graphs::with_edge(g, 50, 24, 25, bridge)
 }
 
-fn islands() {
+fn islands<W: Write>(out: &mut W) {
     let g = two_passes(1.0);
     say::answer(
+        out,
         b"two passes of 25 views, no edge between them",
         run(g, 50, 50, &[0]),
     );
     say::answer(
+        out,
         b"the same, one edge of weight 1 between them",
         run(g, 50, 51, &[0]),
     );
 }
 
-fn loose_despite_bridge() {
+fn loose_despite_bridge<W: Write>(out: &mut W) {
     say::answer(
+        out,
         b"the same, that edge of weight 0",
         run(two_passes(0.0), 50, 51, &[0]),
     );
     say::answer(
+        out,
         b"the same, that edge of weight -0",
         run(two_passes(-0.0), 50, 51, &[0]),
     );
     say::answer(
+        out,
         b"the same, weight 1, no view fixed",
         run(two_passes(1.0), 50, 51, &[]),
     );
@@ -273,24 +305,31 @@ fn line_scan(settings: Settings, id: u32, last: f64) -> Closed {
     close(Manifold::Se3, settings, id, s)
 }
 
-fn line_scans() {
+fn line_scans<W: Write>(out: &mut W) {
     say::closed(
+        out,
         b"a scan of 4 keyframes, 4 loops that agree",
         line_scan(usual(), 40, 1.0),
     );
-    say::closed(b"the same, limit 1", line_scan(settings(1, 0.0), 40, 1.0));
     say::closed(
+        out,
+        b"the same, limit 1",
+        line_scan(settings(1, 0.0), 40, 1.0),
+    );
+    say::closed(
+        out,
         b"the same, the last loop measured the drift",
         line_scan(usual(), 40, 1.25),
     );
     say::closed(
+        out,
         b"the same, no keyframe 40, which loop 1 names",
         line_scan(usual(), 50, 1.0),
     );
 }
 
 // A true step is a turn by 30 degrees about z and a shift by 1; the poses come from a turn by 29 degrees with a rise of 0.01.
-fn turning_scan() {
+fn turning_scan<W: Write>(out: &mut W) {
     let step = graphs::step(
         0.8746197071393957,
         0.48480962024633706,
@@ -300,21 +339,23 @@ fn turning_scan() {
     let s = keyframes::drifted(step, truth, truth);
     let down = Manifold::Gravity(graphs::vec(0.0, 0.0, -9.81));
     say::closed(
+        out,
         b"a scan of 4 keyframes with turns, and gravity",
         close(down, usual(), 40, s),
     );
 }
 
-fn main() {
-    measured();
-    limits();
-    works();
-    zero_weights();
-    far_poses();
-    many_free();
-    rings();
-    islands();
-    loose_despite_bridge();
-    line_scans();
-    turning_scan();
+fn main(rt: HostRuntime) {
+    let mut out = rt.stdout();
+    measured(&mut out);
+    limits(&mut out);
+    works(&mut out);
+    zero_weights(&mut out);
+    far_poses(&mut out);
+    many_free(&mut out);
+    rings(&mut out);
+    islands(&mut out);
+    loose_despite_bridge(&mut out);
+    line_scans(&mut out);
+    turning_scan(&mut out);
 }

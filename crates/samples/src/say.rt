@@ -1,10 +1,10 @@
 // A run's answer, or a scan's, as one line for a person.
 use decisions::Why;
-use libc::STDOUT_FILENO;
 use line::Line;
 use numbers::Refusal;
 use pose_graph::{Closed, PgoResult};
 use sparse_pgo::{Answer, Joined};
+use std::io::Write;
 
 fn with_count(l: Line, text: &[u8], n: u32) -> Line {
     line::with_decimal(line::with_text(l, text), n as u64)
@@ -119,14 +119,14 @@ fn named(sample: &[u8]) -> Line {
     line::with_text(line::with_text(line::empty(), sample), b": ")
 }
 
-fn say(l: Line) {
-    line::say(STDOUT_FILENO, line::with_text(l, b"\n"));
+fn say<W: Write>(out: &mut W, l: Line) {
+    line::say(out, line::with_text(l, b"\n"));
 }
 
-pub fn answer(sample: &[u8], a: Answer) {
-    say(with_answer(named(sample), a));
+pub fn answer<W: Write>(out: &mut W, sample: &[u8], a: Answer) {
+    say(out, with_answer(named(sample), a));
 }
 
-pub fn closed(sample: &[u8], c: Closed) {
-    say(with_closed(named(sample), c));
+pub fn closed<W: Write>(out: &mut W, sample: &[u8], c: Closed) {
+    say(out, with_closed(named(sample), c));
 }
