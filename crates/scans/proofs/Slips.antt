@@ -1,6 +1,6 @@
 -- What the definitions of a scan answer at small concrete scans, computed: each law names a slip of a definition that it would not survive. Assumes nothing.
 use Prim.Native.Nat.{◌+◌, ◌^◌}
-use mathlib.Core.Path.{◌≡◌, refl, sym, ap, ◌∙◌}
+use mathlib.Core.Path.{◌≡◌, refl}
 use mathlib.Core.Bool.{false}
 use lib.IntN.{pos}
 use mathlib.Core.List.{List, [], ◌∷◌, ◌++◌}
@@ -10,10 +10,9 @@ use Rattle.rounding.specs.Rounding.{rounded}
 use Rattle.numbers.specs.Refusals.{refusal, verdict}
 use Rattle.numbers.specs.declared.Verdict.TheVariants.{Refused}
 use Rattle.rotations.specs.Rotation.{plus, minus, turned, transpose, mat_product}
-use Rattle.rotations.specs.declared.Vec3.{Vec3}
 use Rattle.rotations.specs.declared.Vec3F32.{Vec3F32}
 use Rattle.pose_conversion.specs.Conversions.{vec_f32, transform_of}
-use Rattle.graph.specs.Lent.{pose_at, pose_from, edge_from, edge_at}
+use Rattle.graph.specs.Lent.{pose_from, edge_from, edge_at}
 use Rattle.numbers.specs.Walks.{strung}
 use Rattle.scans.specs.declared.Node.TheVariants.{At}
 use Rattle.scans.specs.Scans.{Scan, scan, node_below, node_of, inverse_pose, pose_product, between}
@@ -41,113 +40,23 @@ unfoldable first_step : List Float → List Float → Vec3F32
 unfolding chain_edge between pose_product inverse_pose transform_of vec_f32 plus minus turned transpose mat_product pose_from
 first_step earlier later = (chain_edge (earlier ++ later) 0).measured.t
 
--- three numbers, each by itself
-vec_is : {v : Vec3F32} {a b c : Float} → v.x ≡ a → v.y ≡ b → v.z ≡ c → v ≡ record { x = a; y = b; z = c }
-vec_is e f g = rw (← e, ← f, ← g) refl
-
-earlier_to_later_x : (first_step (straight (num 1)) (straight (num 3))).x ≡ num 2
+earlier_to_later_value : first_step (straight (num 1)) (straight (num 3)) ≡ record { x = fin false 1 (pos 1); y = fin false 0 (pos 0); z = fin false 0 (pos 0) }
 unfolding first_step rounded ratio add mul neg round
-earlier_to_later_x = refl
-
-earlier_to_later_y : (first_step (straight (num 1)) (straight (num 3))).y ≡ num 0
-unfolding first_step rounded ratio add mul neg round
-earlier_to_later_y = refl
-
-earlier_to_later_z : (first_step (straight (num 1)) (straight (num 3))).z ≡ num 0
-unfolding first_step rounded ratio add mul neg round
-earlier_to_later_z = refl
-
-spatial_is : {v : Vec3} {a b c : Float} → v.x ≡ a → v.y ≡ b → v.z ≡ c → v ≡ record { x = a; y = b; z = c }
-spatial_is e f g = rw (← e, ← f, ← g) refl
+earlier_to_later_value = refl
 
 -- b. from the earlier to the later
 earlier_to_later : first_step (straight (num 1)) (straight (num 3)) ≡ record { x = num 2; y = num 0; z = num 0 }
-earlier_to_later = vec_is earlier_to_later_x earlier_to_later_y earlier_to_later_z
-
--- the translation of the inverse of the quarter turn's keyframe: Rᵀ(1, 0, 0), negated
-abbrev back : Vec3
-back = (inverse_pose (pose_at (quarter (num 1)) 0)).translation
-
-back_x : back.x ≡ neg (num 0)
-unfolding inverse_pose pose_from minus turned transpose ratio add mul neg round
-back_x = refl
-
-back_y : back.y ≡ num 1
-unfolding inverse_pose pose_from minus turned transpose ratio add mul neg round
-back_y = refl
-
-back_z : back.z ≡ neg (num 0)
-unfolding inverse_pose pose_from minus turned transpose ratio add mul neg round
-back_z = refl
-
--- the same turned by the later keyframe, which has no turn
-abbrev turned_back : Vec3
-turned_back = record { x = neg (num 0); y = num 1; z = neg (num 0) }
-
-unfoldable onward : Vec3 → Vec3
-unfolding turned pose_from
-onward b = turned (pose_at (straight (num 3)) 0).rotation b
-
-onward_x : (onward turned_back).x ≡ num 0
-unfolding onward ratio add mul neg round
-onward_x = refl
-
-onward_y : (onward turned_back).y ≡ num 1
-unfolding onward ratio add mul neg round
-onward_y = refl
-
-onward_z : (onward turned_back).z ≡ num 0
-unfolding onward ratio add mul neg round
-onward_z = refl
-
--- what the step measures of it
-unfoldable measured_after : Vec3 → Vec3F32
-unfolding vec_f32 plus pose_from
-measured_after b = vec_f32 (plus b (pose_at (straight (num 3)) 0).translation)
-
-abbrev upright : Vec3
-upright = record { x = num 0; y = num 1; z = num 0 }
-
-num_3 : num 3 ≡ fin false 3 (pos 0)
 unfolding ratio round
-num_3 = refl
+earlier_to_later = earlier_to_later_value
 
-value_x : (measured_after upright).x ≡ fin false 3 (pos 0)
-unfolding measured_after rounded ratio add round
-value_x = refl
-
-after_x : (measured_after upright).x ≡ num 3
-after_x = value_x ∙ sym num_3
-
-num_1 : num 1 ≡ fin false 1 (pos 0)
-unfolding ratio round
-num_1 = refl
-
-value_y : (measured_after upright).y ≡ fin false 1 (pos 0)
-unfolding measured_after rounded ratio add round
-value_y = refl
-
-after_y : (measured_after upright).y ≡ num 1
-after_y = value_y ∙ sym num_1
-
-after_z : (measured_after upright).z ≡ num 0
-unfolding measured_after rounded ratio add round
-after_z = refl
-
-after_back : first_step (quarter (num 1)) (straight (num 3)) ≡ measured_after (onward back)
-unfolding first_step measured_after onward
-after_back = refl
-
-back_is : back ≡ turned_back
-back_is = spatial_is back_x back_y back_z
-
-onward_is : onward turned_back ≡ upright
-onward_is = spatial_is onward_x onward_y onward_z
+later_by_inverse_value : first_step (quarter (num 1)) (straight (num 3)) ≡ record { x = fin false 3 (pos 0); y = fin false 1 (pos 0); z = fin false 0 (pos 0) }
+unfolding first_step rounded ratio add mul neg round
+later_by_inverse_value = refl
 
 -- c. the later times the inverse of the earlier: (3, 0, 0) - Rᵀ(1, 0, 0); in the other order (0, -2, 0), with R for Rᵀ (3, -1, 0)
 later_by_inverse : first_step (quarter (num 1)) (straight (num 3)) ≡ record { x = num 3; y = num 1; z = num 0 }
-later_by_inverse =
-    after_back ∙ ap measured_after (ap onward back_is ∙ onward_is) ∙ vec_is after_x after_y after_z
+unfolding ratio round
+later_by_inverse = later_by_inverse_value
 
 -- d. in f64, and then narrowed: of 1 and 1 + 2^-40 it is 2^-40; narrowed first, 0
 narrowed_last : first_step (straight (num 1)) (straight (ratio (2 ^ 40 + 1) (2 ^ 40))) ≡ record { x = ratio 1 (2 ^ 40); y = num 0; z = num 0 }
