@@ -1,5 +1,5 @@
 //! Links the port's archive: the file PORT_LIB (a relative one is taken from the workspace), or
-//! target/staticlib/libexports.a in the repository that holds this workspace.
+//! crates/exports/out/libexports.a in the repository that holds this workspace.
 
 use std::path::PathBuf;
 use std::{env, process};
@@ -9,12 +9,12 @@ fn main() {
     println!("cargo:rerun-if-env-changed=PORT_LIB");
     let archive = match env::var_os("PORT_LIB") {
         Some(file) => manifest.join("..").join(file),
-        None => manifest.join("../../target/staticlib/libexports.a"),
+        None => manifest.join("../../crates/exports/out/libexports.a"),
     };
     println!("cargo:rerun-if-changed={}", archive.display());
     let Ok(archive) = archive.canonicalize() else {
         refuse(&format!(
-            "{} is missing: build it with `rt staticlib exports`, or set PORT_LIB to the archive",
+            "{} is missing: build it with `rt lib` in crates/exports, or set PORT_LIB to the archive",
             archive.display()
         ));
     };
