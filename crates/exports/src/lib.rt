@@ -647,6 +647,6 @@ pub extern "C" fn pgo_float_text(x: f64, out: &mut [u8]) -> u32
     let l = line::with_float(line::empty(), x);
     let text = l.bytes;
     let n = l.used;
-    bytes::copy(&text[..n], out);
+    out[..n].copy_from_slice(&text[..n]);
     n as u32
 }
