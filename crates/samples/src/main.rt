@@ -191,7 +191,7 @@ fn many_free<W: Write>(out: &mut W) {
 
 // ---- a ring that does not close
 
-// 50 views. A true step is a turn by 7.2 degrees about z (the fiftieth part of a full turn) and a shift by 1; what measured.now, and what the poses
+// 50 views. A true step is a turn by 7.2 degrees about z (the fiftieth part of a full turn) and a shift by 1; what was measured, and what the poses
 // come from, is a turn by 7.25 degrees with a rise of 0.01. Only the edge from the last view to the first measured the true step.
 fn ring() -> Graph {
     let drifted = graphs::vec(1.0, 0.0, 0.01);

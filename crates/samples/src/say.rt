@@ -91,7 +91,7 @@ fn with_answer(l: Line, a: Answer) -> Line {
     }
 }
 
-// What measured.now before and after.
+// What was measured before and after.
 fn with_change(l: Line, text: &[u8], before: f64, after: f64) -> Line {
     let l = line::with_float(line::with_text(l, text), before);
     line::with_float(line::with_text(l, b" to "), after)
