@@ -29,8 +29,12 @@ def reworded(text):
             body = re.search(r"\n\{", part)
             stop = body.start() if body else len(part)
             clause = part[:stop]
-            clause = re.sub(r"\(was (\w+)\)|\bwas (\w+)\b", lambda m: (m.group(1) or m.group(2)) + (".old" if (m.group(1) or m.group(2)) in lent else ".now"), clause)
-            clause = re.sub(r"\(became (\w+)\)|\bbecame (\w+)\b", lambda m: (m.group(1) or m.group(2)) + ".new", clause)
+            lines = clause.split("\n")
+            for i, line in enumerate(lines):
+                if not line.lstrip().startswith("//"):
+                    line = re.sub(r"\(was (\w+)\)|\bwas (\w+)\b", lambda m: (m.group(1) or m.group(2)) + (".old" if (m.group(1) or m.group(2)) in lent else ".now"), line)
+                    lines[i] = re.sub(r"\(became (\w+)\)|\bbecame (\w+)\b", lambda m: (m.group(1) or m.group(2)) + ".new", line)
+            clause = "\n".join(lines)
             part = clause + part[stop:]
         out += [text[at:a], part]
         at = end

@@ -59,7 +59,7 @@ fn same_item(kind: u32, b: &[u8]) -> bool {
     }
 }
 
-// What counted.now, and whether all could be read.
+// What was counted, and whether all could be read.
 #[derive(Clone, Copy)]
 struct Counted {
     whole: bool,

@@ -58,7 +58,7 @@ fn stale(out: &[f64]) -> bool {
     true
 }
 
-// Whether the record has this answer from `at` on. Where a run is refused the output stays as it found.now.
+// Whether the record has this answer from `at` on. Where a run is refused the output stays as it was found.
 fn same_answer(a: Answer, out: &[f64], b: &[u8], at: usize) -> bool
     requires { at ≤ 65608 }
 {
@@ -102,7 +102,7 @@ pub fn same_run(b: &[u8], poses: &[f64], ends: &[u32], edges: &[f32], fixed: &[u
     same_answer(a, new, b, l.end)
 }
 
-// A run that not.now refused gives its poses.
+// A run that was not refused gives its poses.
 fn poses_size(l: Lists, number: u32) -> usize
     requires { l.poses ≤ 2048 }
     ensures { result ≤ 16384 }
