@@ -1,0 +1,6 @@
+use Rattle.exports.specs.Layers.{matrix_from}
+use Rattle.exports.proofs.matrix_from.Goals as goal
+
+pub returns : goal.returns
+unfolding matrix_from
+returns c = rw (c.vec32_from-3.ensures, c.vec32_from-2.ensures, c.vec32_from.ensures)
