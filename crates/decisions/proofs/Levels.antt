@@ -9,7 +9,7 @@ use native.Mathlib.Omega.{arith}
 use lib.IntN.{negsuc}
 use lib.Dec.{T, ltb, leb, eqb, leb→le, ltb→lt, lt→ltb}
 use lib.Pow.{pow_pos}
-use lib.Ieee.{Float, nan, inf, fin, binary32, up, down, low, round, mul, div, lt, le, fits}
+use lib.Ieee.{Float, nan, inf, fin, binary32, up, down, round, mul, div, lt, le, fits}
 use lib.Ieee.Fits.{up_pos, and_l, and_r}
 use lib.Ieee.Order.{round_mono}
 use lib.Ieee.Positive.{num, den, den_pos}

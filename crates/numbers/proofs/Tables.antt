@@ -1,5 +1,5 @@
 -- Laws of `table`: its length, its elements, a store, and a list filled index by index. Assumes nothing.
-use Rattle.std.proofs.Common.{◌≡◌, ℕ, zero, suc, ◌+◌, ◌<◌, Bool, true, false, eqb, List, [], ◌∷◌, ◌++◌, length, get_or, set, replicate, sym, refl, ◌∙◌, subst, ⊎_elim, le_of_suc-le-suc, not-suc-le-zero, eq-or-lt_of_le, add-one, length-append, length-set, get_or-set_other, get_or-set_same, ext_get_or, eqb-true}
+use Rattle.std.proofs.Common.{◌≡◌, ℕ, zero, suc, ◌<◌, Bool, true, false, eqb, List, [], ◌∷◌, ◌++◌, length, get_or, set, replicate, sym, refl, ◌∙◌, subst, ⊎_elim, le_of_suc-le-suc, not-suc-le-zero, eq-or-lt_of_le, add-one, length-append, length-set, get_or-set_other, get_or-set_same, ext_get_or, eqb-true}
 use lib.ListN.{length-replicate, get_or-replicate, get_or-append}
 use lib.Seq.{get_or_at}
 use borrow.Author.Tests.{eqb-false}

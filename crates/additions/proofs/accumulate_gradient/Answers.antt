@@ -1,9 +1,8 @@
 use Rattle.additions.proofs.Ends.{answered}
-use Prim.Native.Nat.{◌-◌}
 use native.Mathlib.Omega.{arith}
 use Rattle.numbers.specs.Walks.{each}
 use Rattle.numbers.proofs.Walking.{each_more, each_all, each_early}
-use Rattle.additions.specs.Additions.{add_to, gradient_added}
+use Rattle.additions.specs.Additions.{gradient_added}
 use borrow.Author.Rules.{rules}
 use Rattle.additions.proofs.accumulate_gradient.Goals as goal
 

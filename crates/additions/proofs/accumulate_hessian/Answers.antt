@@ -1,5 +1,4 @@
 use Rattle.additions.proofs.Ends.{answered}
-use Prim.Native.Nat.{◌-◌}
 use native.Mathlib.Omega.{arith}
 use Rattle.numbers.specs.Walks.{each}
 use Rattle.numbers.proofs.Walking.{each_more, each_all, each_early}

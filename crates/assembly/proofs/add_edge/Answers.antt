@@ -1,13 +1,9 @@
 use mathlib.Core.Path.{◌≡◌, refl}
-use mathlib.Core.List.{List}
 use Prim.Native.Nat.{ℕ}
-use lib.Ieee.{Float}
-use Rattle.numbers.specs.declared.Went.{Went}
-use Rattle.graph.specs.Lent.{pose_at, edge_at, lent_links}
+use Rattle.graph.specs.Lent.{edge_at}
 use Rattle.graph.specs.declared.Slot.TheVariants.{Block}
 use Rattle.residual.specs.declared.EdgeEndpoint.TheVariants.{A, B}
-use Rattle.additions.specs.Additions.{lower_triangle}
-use Rattle.assembly.specs.Assembly.{edge_of, edge_step}
+use Rattle.assembly.specs.Assembly.{edge_of}
 use Rattle.assembly.specs.Known.{FreePose}
 use Rattle.assembly.proofs.Edges.{edge_added}
 use Rattle.assembly.proofs.Knowing.{free_known, one_known, both_known}

@@ -3,7 +3,6 @@ use Rattle.additions.proofs.Ends.{answered}
 use Rattle.numbers.proofs.Walking.{each_none, each_more}
 use native.Mathlib.Omega.{arith}
 use mathlib.Core.Path.{refl}
-use Prim.Native.Nat.{◌-◌}
 use Rattle.assembly.proofs.add_edges.Goals as goal
 
 pub loop-k-init : goal.loop-k-init

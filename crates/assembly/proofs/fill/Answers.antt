@@ -1,5 +1,4 @@
 use mathlib.Core.Path.{sym, ◌∙◌}
-use Prim.Native.Nat.{◌-◌}
 use native.Mathlib.Omega.{arith}
 use Rattle.assembly.proofs.Knowing.{ready_first, ready_more, ready_all}
 use Rattle.assembly.proofs.fill.Goals as goal

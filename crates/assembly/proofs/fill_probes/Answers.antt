@@ -1,7 +1,6 @@
 use Rattle.assembly.proofs.Knowing.{probed_none, probed_more, probed_all}
 use native.Mathlib.Omega.{arith}
 use mathlib.Core.Path.{◌∙◌}
-use Prim.Native.Nat.{◌-◌}
 use Rattle.assembly.proofs.fill_probes.Goals as goal
 
 pub loop-c-init : goal.loop-c-init

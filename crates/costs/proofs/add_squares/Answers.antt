@@ -1,4 +1,3 @@
-use Prim.Native.Nat.{◌-◌}
 use native.Mathlib.Omega.{arith}
 use Rattle.numbers.proofs.Walking.{each_none}
 use Rattle.costs.proofs.Costing.{square_more, square_stop, square_end}

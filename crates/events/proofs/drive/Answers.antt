@@ -1,4 +1,3 @@
-use Prim.Native.Nat.{◌-◌}
 use mathlib.Core.Path.{sym, ◌∙◌}
 use Rattle.events.proofs.Lists.{driven_more, driven_end}
 use borrow.Author.Rules.{rules}

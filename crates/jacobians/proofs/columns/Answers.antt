@@ -1,7 +1,6 @@
 use mathlib.Core.Path.{◌≡◌, refl}
 use lib.Ieee.{of_bits}
 use Rattle.jacobians.proofs.Going.{column_more, jacobian_stopped, jacobian_whole}
-use Prim.Native.Nat.{◌-◌}
 use native.Mathlib.Omega.{arith}
 use Rattle.numbers.specs.Notation.{ratio}
 use Rattle.numbers.specs.Walks.{each}

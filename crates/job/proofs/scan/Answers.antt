@@ -1,4 +1,3 @@
-use Prim.Native.Nat.{◌-◌}
 use mathlib.Core.Path.{sym, subst, ◌∙◌}
 use Rattle.job.proofs.Held.{Seen, seen_start, seen_on, seen_less, seen_done, seen_stop}
 use Rattle.job.proofs.scan.Goals as goal

@@ -1,4 +1,3 @@
-use Prim.Native.Nat.{◌-◌}
 use Rattle.job.proofs.Values.{taken_none, taken_more, taken_all}
 use Rattle.job.proofs.take32.Goals as goal
 

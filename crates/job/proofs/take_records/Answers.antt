@@ -1,4 +1,3 @@
-use Prim.Native.Nat.{◌-◌}
 use mathlib.Core.Path.{sym, subst, ◌∙◌}
 use Rattle.job_records.specs.declared.Cursor.{Cursor}
 use Rattle.job.specs.Format.{space}

@@ -1,9 +1,9 @@
 use mathlib.Core.Path.{◌≡◌, refl, sym, ◌∙◌}
-use Prim.Native.Nat.{◌+◌, ◌-◌, ◌*◌, ◌≤◌}
+use Prim.Native.Nat.{◌+◌, ◌*◌, ◌≤◌}
 use native.Mathlib.Omega.{arith}
 use borrow.Author.Tests.{not-true, not-false, lt-ltb, le-ltb}
 use Rattle.numbers.proofs.Choices.{taken, left}
-use Rattle.profile.specs.Starts.{plus_zero, start_of}
+use Rattle.profile.specs.Starts.{start_of}
 use Rattle.profile.proofs.Leading.{leading_none, leading_more, leading_stop}
 use Rattle.profile.proofs.Index.{before}
 use Rattle.profile.proofs.first_in.Goals as goal

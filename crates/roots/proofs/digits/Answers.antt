@@ -1,4 +1,4 @@
-use Rattle.std.proofs.Common.{◌≡◌, ℕ, ◌+◌, ◌-◌, ◌*◌, ◌/◌, ◌%◌, ◌^◌, ◌<◌, ap, ◌∙◌, mul_comm, arith, pow-add}
+use Rattle.std.proofs.Common.{◌≡◌, ℕ, ◌+◌, ◌*◌, ◌/◌, ◌%◌, ◌^◌, ◌<◌, ap, ◌∙◌, mul_comm, arith, pow-add}
 use lib.Bits.{bit_and, and_mask}
 use Rattle.numbers.proofs.Word.{below_pow}
 use Rattle.roots.proofs.digits.Goals as goal
