@@ -43,7 +43,7 @@ use Rattle.trials.specs.Trials.{norm_of}
 use Rattle.sparse_pgo.specs.Numerics.{parts_on}
 use Rattle.sparse_pgo.proofs.Looping.{not_above}
 use Rattle.checks.proofs.Slots.{links_same}
-use Rattle.sparse_pgo.proofs.Demands.{run_parts}
+use Rattle.sparse_pgo.specs.Refusing.{run_parts}
 
 -- of the system of n unknowns at the poses x, and of its step at damping d
 pub record AlwaysFinite (p : Parts (List Float) (List Float) (ℕ → Float)) (n : ℕ) (x : List Float) (d : Float) : Type 0 where

@@ -39,7 +39,8 @@ use Rattle.sparse_pgo.specs.Parts.{joined_of, answer_of, whole_from, whole}
 use Rattle.sparse_pgo.specs.Numerics.{parts_on}
 use Rattle.sparse_pgo.specs.Optimize.{after_checks, ran, optimized}
 use Rattle.sparse_pgo.proofs.Looping.{not_above}
-use Rattle.sparse_pgo.proofs.Demands.{run_parts, answered, come_out}
+use Rattle.sparse_pgo.specs.Refusing.{run_parts}
+use Rattle.sparse_pgo.proofs.Demands.{answered, come_out}
 
 -- ---- of any parts
 

@@ -26,7 +26,6 @@ use Rattle.rows.specs.declared.Settings.{Settings}
 use Rattle.checks.proofs.Answers.{settle_turned}
 use Rattle.checks.proofs.Passed.{PassedSettings, fit}
 use Rattle.checks.proofs.Row26.{Adrift, refused_26}
-use Rattle.retraction.specs.Retraction.{unit_of}
 use Rattle.profile.specs.Layout.{need}
 use Rattle.decisions.specs.Demand.{Held}
 use Rattle.decisions.specs.Machine.{Play, played, state_of}
@@ -41,9 +40,9 @@ use Rattle.sparse_pgo.specs.declared.Joined.{Joined}
 use Rattle.sparse_pgo.specs.declared.Answer.{Answer}
 use Rattle.sparse_pgo.specs.declared.Answer.TheVariants as answer
 use Rattle.sparse_pgo.specs.Parts.{Parts, assembly_of, numerics, joined_of, answer_of, whole_from, whole}
-use Rattle.sparse_pgo.specs.Numerics.{parts_of}
 use Rattle.slices.specs.Slices.{zeroed}
 use Rattle.sparse_pgo.specs.Optimize.{After, after_checks, given, ran, optimized}
+use Rattle.sparse_pgo.specs.Refusing.{run_parts}
 use Rattle.sparse_pgo.proofs.Looping.{not_above}
 
 -- ---- any two answers that meet a promise which is an equation agree
@@ -128,10 +127,7 @@ module _ {X S D : Type 0} (p : Parts X S D) (n : ℕ) (above : 22 < n) where
 
 -- ---- of the public promise
 
--- the parts of an input's run, and what the machine comes to with them from a first cost
-abbrev pub run_parts : Input → Parts (List Float) (List Float) (ℕ → Float)
-run_parts i = parts_of (unit_of i.manifold) i.settings (graph_of i)
-
+-- what the machine comes to with an input's parts from a first cost
 abbrev pub last_of : Input → Float → Next
 last_of i first = (played (numerics (run_parts i)) i.settings.limit i.settings.cost_tolerance first i.settings.damping i.poses).next
 

@@ -9,3 +9,8 @@ pub mod Demands
 pub mod AlwaysFinite
 pub mod WholeAssembly
 pub mod Costed
+pub mod SystemSums
+pub mod KeptPoses
+pub mod RunRefusing
+pub mod Agreement
+pub mod RunDemands

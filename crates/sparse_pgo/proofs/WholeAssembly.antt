@@ -15,7 +15,7 @@ use Rattle.additions.specs.Additions.{whole_blocks}
 use Rattle.assembly.specs.Assembly.{ends_by}
 use Rattle.assembly.proofs.WholeBlocks.{Alike, whole_blocks_lem, graph_apart}
 use Rattle.sparse_pgo.specs.Numerics.{parts_on}
-use Rattle.sparse_pgo.proofs.Demands.{run_parts}
+use Rattle.sparse_pgo.specs.Refusing.{run_parts}
 use Rattle.sparse_pgo.proofs.AlwaysFinite.{unknowns, blocks_fit}
 
 pub whole_assembly : (i : Input) (c : Counts) → (checks i).answer ≡ checked.Fit c → (x : List Float)

@@ -5,7 +5,8 @@ use Rattle.numbers.specs.Walks.{done, stopped}
 use Rattle.numbers.specs.Refusals.{refusal}
 use Rattle.numbers.specs.declared.Failure.{Failure}
 use Rattle.numbers.specs.declared.Refusal.{Refusal}
-use Rattle.checks.specs.Input.{Input}
+use Rattle.checks.specs.Input.{Input, graph_of}
+use Rattle.retraction.specs.Retraction.{unit_of}
 use Rattle.decisions.specs.Damping.{increased, lambda_max}
 use Rattle.decisions.specs.Run.{begun, iterations, passed}
 use Rattle.decisions.specs.Machine.{Play, play, enough}
@@ -16,8 +17,12 @@ use Rattle.decisions.specs.declared.End.{End}
 use Rattle.decisions.specs.declared.Next.{Next}
 use Rattle.decisions.specs.declared.Next.TheVariants as next
 use Rattle.sparse_pgo.specs.declared.Answer.{Answer}
-use Rattle.sparse_pgo.specs.Parts.{no_step, numerics, answer_after}
-use Rattle.sparse_pgo.specs.Optimize.{run_parts}
+use Rattle.sparse_pgo.specs.Parts.{Parts, no_step, numerics, answer_after}
+use Rattle.sparse_pgo.specs.Numerics.{parts_of}
+
+-- the parts of an input's run
+abbrev pub run_parts : Input → Parts (List Float) (List Float) (ℕ → Float)
+run_parts i = parts_of (unit_of i.manifold) i.settings (graph_of i)
 
 -- what the run of an input comes to in so many turns from its first cost; and in all its turns
 abbrev pub played_for : Input → Float → ℕ → Play (List Float)

@@ -17,7 +17,7 @@ use Rattle.assembly.specs.Sums.{IsSums}
 use Rattle.assembly.proofs.WholeBlocks.{graph_apart}
 use Rattle.assembly.proofs.Sums.{entries_are_sums, from_minus_zero}
 use Rattle.sparse_pgo.specs.Numerics.{parts_on}
-use Rattle.sparse_pgo.proofs.Demands.{run_parts}
+use Rattle.sparse_pgo.specs.Refusing.{run_parts}
 use Rattle.sparse_pgo.proofs.AlwaysFinite.{unknowns, blocks_fit}
 
 pub system_is_sums : (i : Input) (c : Counts) → (checks i).answer ≡ checked.Fit c → (x w : List Float) → (run_parts i).assembled x ≡ done w

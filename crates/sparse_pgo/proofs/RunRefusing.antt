@@ -1,8 +1,8 @@
--- What it means that a run past the checks is refused, for rows 20 to 22: the run answers a refusal exactly where `RunRefuses` gives it; and the run of any
--- input whose settings pass is over after its turns. Assumes nothing.
+-- What it means that a run past the checks is refused, for rows 20 to 22: the run answers a refusal, of any number but 0, exactly where `RunRefuses` gives
+-- it; and the run of any input whose settings pass is over after its turns, so it answers no refusal of number 0. Assumes nothing.
 use mathlib.Core.Path.{◌≡◌, refl, sym, ap, subst, ◌∙◌}
 use mathlib.Core.Logic.{◌⊎◌, inl, inr}
-use mathlib.Core.Bool.{Bool, true, false}
+use mathlib.Core.Bool.{Bool, true, false, true≢false}
 use Prim.Native.Nat.{ℕ, ◌<◌, ◌≤◌}
 use native.Mathlib.Omega.{arith}
 use lib.Dec.{T}
@@ -23,7 +23,7 @@ use Rattle.checks.proofs.Passed.{PassedSettings}
 use Rattle.decisions.specs.Damping.{lambda_max}
 use Rattle.decisions.specs.Demand.{Held}
 use Rattle.decisions.specs.Run.{after_failed}
-use Rattle.decisions.specs.Machine.{state_of}
+use Rattle.decisions.specs.Machine.{state_of, ended}
 use Rattle.decisions.specs.declared.State.{State}
 use Rattle.decisions.specs.declared.Assembly.TheVariants as assembly
 use Rattle.decisions.specs.declared.Raw.TheVariants as raw
@@ -37,8 +37,8 @@ use Rattle.decisions.proofs.Ending.{Ending, played_ending, solves_steep, ending_
 use Rattle.sparse_pgo.specs.declared.Answer.TheVariants as answer
 use Rattle.sparse_pgo.specs.Parts.{Parts, Found, step, no_step, assembly_of, trial_as, step_as, attempt_as, numerics, answer_of, whole_from, whole}
 use Rattle.sparse_pgo.specs.Numerics.{parts_on}
-use Rattle.sparse_pgo.specs.Optimize.{run_parts, ran}
-use Rattle.sparse_pgo.specs.Refusing.{last_of, GoesOn, NoFirstCost, NoAssembly, RunRefuses, row_20, row_21, row_22, EndedRun}
+use Rattle.sparse_pgo.specs.Optimize.{ran}
+use Rattle.sparse_pgo.specs.Refusing.{run_parts, last_of, GoesOn, NoFirstCost, NoAssembly, RunRefuses, row_20, row_21, row_22, EndedRun}
 use Rattle.sparse_pgo.proofs.Looping.{not_above}
 
 -- ---- of any parts: what a turn hears of the assembly and of the solve
@@ -106,10 +106,21 @@ module _ {X S D : Type 0} (p : Parts X S D) (x : X) where
 
 -- ---- of an input's run
 
-answer_refused : (first : Float) (n : Next) (r : Refusal) → answer_of first n ≡ answer.Refused r → (s : State) × (n ≡ next.Over s (end.Refused r))
-answer_refused first (next.On s) r q = let z : ◌≡◌ {A = ℕ} 0 1 = cc in absurd (omega arith)
-answer_refused first (next.Over s (end.Stopped w)) r q = let z : ◌≡◌ {A = ℕ} 0 1 = cc in absurd (omega arith)
-answer_refused first (next.Over s (end.Refused q)) r h = let d : q ≡ r = cc in (s, ap (λ (q : Refusal). next.Over s (end.Refused q)) d)
+-- a machine that is not over would be answered by number 0
+abbrev Told : Next → Refusal → Type 0
+Told n r = (s : State) → n ≡ next.On s → refusal 0 0 ≡ r → ⊥
+
+answer_refused : (first : Float) (n : Next) (r : Refusal) → Told n r → answer_of first n ≡ answer.Refused r
+    → (s : State) × (n ≡ next.Over s (end.Refused r))
+answer_refused first (next.On s) r t q = let d : refusal 0 0 ≡ r = cc in absurd (t s refl d)
+answer_refused first (next.Over s (end.Stopped w)) r t q = let z : ◌≡◌ {A = ℕ} 0 1 = cc in absurd (omega arith)
+answer_refused first (next.Over s (end.Refused q)) r t h = let d : q ≡ r = cc in (s, ap (λ (q : Refusal). next.Over s (end.Refused q)) d)
+
+over_told : (n : Next) (r : Refusal) → ended n ≡ true → Told n r
+over_told n r e s h d = let z : false ≡ true = ap ended (sym h) ∙ e in absurd (true≢false (sym z))
+
+numbered_told : (n : Next) (r : Refusal) → 0 < r.number → Told n r
+numbered_told n r l s h d = let z : 0 ≡ r.number = ap (λ (r : Refusal). r.number) d in omega arith
 
 module _ (i : Input) where
   -- how the run of this input from a first cost ended
@@ -173,25 +184,28 @@ module _ (i : Input) where
           go (inl h) = by_top h
           go (inr h) = by_solve h
 
-    later_refused : (r : Refusal) → (ran i).answer ≡ answer.Refused r → RunRefuses i r
-    later_refused r q =
-        let (t, over) = answer_refused first (last_of i first) r (sym ran_answer ∙ q) in
+    later_refused : (r : Refusal) → Told (last_of i first) r → (ran i).answer ≡ answer.Refused r → RunRefuses i r
+    later_refused r told q =
+        let (t, over) = answer_refused first (last_of i first) r told (sym ran_answer ∙ q) in
         last_refuses t r (last_turn first t (end.Refused r) over)
 
   unpriced : (k : ℕ) (why : Failure) (c : Float) → (run_parts i).cost i.poses ≡ stopped k why c → (ran i).answer ≡ answer.Refused (refusal 20 k)
   unfolding ran whole
   unpriced k Numerical c h = ap (λ (e : Ended Float). (whole_from (run_parts i) i.settings i.poses e).answer) h
 
-  -- a run that is refused is refused by its row
-  pub run_refused : (r : Refusal) → (ran i).answer ≡ answer.Refused r → RunRefuses i r
-  run_refused r q = go ((run_parts i).cost i.poses) refl
+  told_refused : (r : Refusal) → ((first : Float) → Told (last_of i first) r) → (ran i).answer ≡ answer.Refused r → RunRefuses i r
+  told_refused r told q = go ((run_parts i).cost i.poses) refl
     where
       go : (e : Ended Float) → (run_parts i).cost i.poses ≡ e → RunRefuses i r
-      go (done c) h = later_refused c h r q
+      go (done c) h = later_refused c h r (told c) q
       go (stopped k why c) h =
           let said : answer.Refused (refusal 20 k) ≡ answer.Refused r = sym (unpriced k why c h) ∙ q in
           let d : refusal 20 k ≡ r = cc in
           subst (RunRefuses i) d (row_20 (record { why = why; left = c; cost = h }))
+
+  -- a run that is refused, by any number but 0, is refused by its row
+  pub numbered_refused : (r : Refusal) → 0 < r.number → (ran i).answer ≡ answer.Refused r → RunRefuses i r
+  numbered_refused r l q = told_refused r (λ first. numbered_told (last_of i first) r l) q
 
   -- ---- the place of 20 and 21 is an edge
 
@@ -213,6 +227,15 @@ module _ (i : Input) where
   module _ (ok : PassedSettings i.settings) (f : T (fits binary32 i.settings.damping)) where
     at_most : le i.settings.damping lambda_max ≡ true
     at_most = not_above i.settings.damping ok.damping_above ok.damping_most
+
+    is_over : (first : Float) → ended (last_of i first) ≡ true
+    is_over first =
+        played_ends (numerics (run_parts i)) i.settings.limit i.settings.cost_tolerance first i.settings.damping i.poses
+        ok.most_limit f ok.damping_above at_most
+
+    -- a run that is refused is refused by its row
+    pub run_refused : (r : Refusal) → (ran i).answer ≡ answer.Refused r → RunRefuses i r
+    run_refused r q = told_refused r (λ first. over_told (last_of i first) r (is_over first)) q
 
     over_refused : (first : Float) → (run_parts i).cost i.poses ≡ done first → (t : State) (r : Refusal) → RunEnds first t (end.Refused r)
         → (ran i).answer ≡ answer.Refused r
@@ -249,9 +272,7 @@ module _ (i : Input) where
     -- from a first cost the run is over after its turns
     pub run_ended : (first : Float) → (run_parts i).cost i.poses ≡ done first → EndedRun i first (ran i).answer
     run_ended first had =
-        let (t, (w, over)) = over_of (last_of i first)
-        (played_ends (numerics (run_parts i)) i.settings.limit i.settings.cost_tolerance first i.settings.damping i.poses
-        ok.most_limit f ok.damping_above at_most) in
+        let (t, (w, over)) = over_of (last_of i first) (is_over first) in
         record {
           state = t;
           how = w;
