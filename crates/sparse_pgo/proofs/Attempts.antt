@@ -1,7 +1,10 @@
 -- A solve of the system that stands in the work, and the trial of its step. Assumes nothing.
 use mathlib.Core.Path.{◌≡◌, refl, sym, ap, ◌∙◌}
 use mathlib.Core.Bool.{Bool, true, false}
-use mathlib.Core.List.{List}
+use mathlib.Core.List.{List, [], ◌∷◌}
+use mathlib.Core.Logic.{⊎_elim}
+use types.Run.{OneOf}
+use denote.Enum.Declared.{tag_of}
 use Prim.Native.Nat.{ℕ, ◌+◌, ◌-◌, ◌*◌, ◌<◌, ◌≤◌}
 use native.Mathlib.Omega.{arith}
 use lib.ListN.{length, get_or}
@@ -15,7 +18,7 @@ use Rattle.graph.specs.declared.Edge.{Edge}
 use Rattle.graph.specs.declared.Slot.TheVariants.{Block}
 use Rattle.costs.specs.Costs.{cost_ends}
 use Rattle.solve.specs.declared.Solved.{Solved}
-use Rattle.solve.specs.declared.Solved.TheVariants.{Step, Failed}
+use Rattle.solve.specs.declared.Solved.TheVariants.{Step, Failed, Short}
 use Rattle.solve.specs.Rule.{solvable, nothing}
 use Rattle.solve.specs.Work as solves
 use Rattle.profile.specs.Layout.{need, hessian_of}
@@ -35,6 +38,12 @@ use Rattle.sparse_pgo.specs.declared.Setup.{Setup}
 use Rattle.sparse_pgo.specs.Parts.{numerics}
 use Rattle.sparse_pgo.specs.Numerics.{parts_on}
 use Rattle.sparse_pgo.specs.forms.Turns.{parts_in, held_in, Lent, Holds, accepts, Attempted}
+
+-- a test for another answer
+pub no_step_told : (r : Solved) → OneOf (1 ∷ 2 ∷ []) (tag_of Rattle.solve.specs.contracts.Solved.the_type r) → r ≡ Step → ⊥
+no_step_told Step h e = ⊎_elim (λ (q : 0 ≡ 1). omega arith) (λ (q : 0 ≡ 2). omega arith) h
+no_step_told Failed h e = let z : ◌≡◌ {A = ℕ} 0 1 = cc in omega arith
+no_step_told Short h e = let z : ◌≡◌ {A = ℕ} 0 1 = cc in omega arith
 
 -- what an answer says of the rule
 module _ (w : List Float) (n : ℕ) (d : Float) (long : need n ≤ length w) where
