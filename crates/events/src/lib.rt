@@ -15,28 +15,41 @@ pub enum Event {
     Solved(Raw),
 }
 
+// Events by number, as a list has them; any other number is a trial whose cost could not be had.
+const REFUSED: u32 = 0;
+
+const FLAT: u32 = 1;
+
+const FAILED: u32 = 2;
+
+const SMALL: u32 = 3;
+
+const PRICED: u32 = 4;
+
+const RETRACTION: u32 = 5;
+
 pub fn event_of(number: u32, price: f32) -> Event
     ensures { result ≡ event_of number price }
 {
-    if number == 0 {
+    if number == REFUSED {
         return Event::Assembled(Assembly::Refused(Refusal {
             number: 21,
             place: 0,
         }));
     }
-    if number == 1 {
+    if number == FLAT {
         return Event::Assembled(Assembly::Flat);
     }
-    if number == 2 {
+    if number == FAILED {
         return Event::Solved(Raw::Failed);
     }
-    if number == 3 {
+    if number == SMALL {
         return Event::Solved(Raw::Small);
     }
-    if number == 4 {
+    if number == PRICED {
         return Event::Solved(Raw::Priced(price));
     }
-    if number == 5 {
+    if number == RETRACTION {
         return Event::Solved(Raw::Numerical(Numerical::Retraction));
     }
     Event::Solved(Raw::Numerical(Numerical::Unpriced))

@@ -54,6 +54,9 @@ pub fn narrow(x: f64) -> f32
     f32::from_bits((sign << 31) + mag)
 }
 
+// How many sizes there are from 2^-126 up to where an infinity is nearest, counted in last places of an f64.
+const IN_PLACE: u64 = 0x0fdf_ffff_f000_0000;
+
 // The f32 nearest to x, as an f64: what `widen` makes of what `narrow` makes of x; rounded in place where x is at least 2^-126 in size and no infinity is
 // nearest.
 pub fn round32(x: f64) -> f64
@@ -65,7 +68,7 @@ pub fn round32(x: f64) -> f64
     let b: u64 = f64::to_bits(x);
     let mag = b & 0x7fff_ffff_ffff_ffff;
     // From 2^-126 up to where an infinity is nearest. As in `nearest_shift`, what is added carries just where the digits kept go up.
-    if std::num::wrapping_sub_u64(mag, 0x3810_0000_0000_0000) < 0x0fdf_ffff_f000_0000 {
+    if std::num::wrapping_sub_u64(mag, 0x3810_0000_0000_0000) < IN_PLACE {
         return f64::from_bits((b + 0x0fff_ffff + ((b >> 29) & 1)) & 0xffff_ffff_e000_0000);
     }
     numbers::widen(narrow(x))

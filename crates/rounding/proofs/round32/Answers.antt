@@ -29,28 +29,28 @@ passed b less bound e l h =
 
 pub overflow_add-result : goal.overflow_add-result
 overflow_add-result c =
-    let within : Within (to_bits binary64 c.args.x % 2 ^ 63) = passed (to_bits binary64 c.args.x) c.wrapping_sub_u64.result _ c.wrapping_sub_u64.ensures.value c.if-wrapping_sub_u64-lt1143914305083670528.true tt in
+    let within : Within (to_bits binary64 c.args.x % 2 ^ 63) = passed (to_bits binary64 c.args.x) c.wrapping_sub_u64.result _ c.wrapping_sub_u64.ensures.value c.if-wrapping_sub_u64-lt-IN_PLACE.true tt in
     let held : T (fits binary64 c.args.x) = subst T (sym c.well_formed.0.1) tt in
     let bits-lt : to_bits binary64 c.args.x < 2 ^ 64 = to_bits-lt binary64 c.args.x (held) in
     omega (arith, (within).1, bits-lt)
 
-pub overflow_add-result-then-wrapping_sub_u64-lt1143914305083670528 : goal.overflow_add-result-then-wrapping_sub_u64-lt1143914305083670528
-overflow_add-result-then-wrapping_sub_u64-lt1143914305083670528 c =
-    let within : Within (to_bits binary64 c.args.x % 2 ^ 63) = passed (to_bits binary64 c.args.x) c.wrapping_sub_u64.result _ c.wrapping_sub_u64.ensures.value c.if-wrapping_sub_u64-lt1143914305083670528.true tt in
+pub overflow_add-result-then-wrapping_sub_u64-lt-IN_PLACE : goal.overflow_add-result-then-wrapping_sub_u64-lt-IN_PLACE
+overflow_add-result-then-wrapping_sub_u64-lt-IN_PLACE c =
+    let within : Within (to_bits binary64 c.args.x % 2 ^ 63) = passed (to_bits binary64 c.args.x) c.wrapping_sub_u64.result _ c.wrapping_sub_u64.ensures.value c.if-wrapping_sub_u64-lt-IN_PLACE.true tt in
     let held : T (fits binary64 c.args.x) = subst T (sym c.well_formed.0.1) tt in
     let bits-lt : to_bits binary64 c.args.x < 2 ^ 64 = to_bits-lt binary64 c.args.x (held) in
     omega (arith, (within).1, bits-lt, and_mask (to_bits binary64 c.args.x / 2 ^ 29) 1)
 
 pub float_from_bits-result : goal.float_from_bits-result
 float_from_bits-result c =
-    let within : Within (to_bits binary64 c.args.x % 2 ^ 63) = passed (to_bits binary64 c.args.x) c.wrapping_sub_u64.result _ c.wrapping_sub_u64.ensures.value c.if-wrapping_sub_u64-lt1143914305083670528.true tt in
+    let within : Within (to_bits binary64 c.args.x % 2 ^ 63) = passed (to_bits binary64 c.args.x) c.wrapping_sub_u64.result _ c.wrapping_sub_u64.ensures.value c.if-wrapping_sub_u64-lt-IN_PLACE.true tt in
     let held : T (fits binary64 c.args.x) = subst T (sym c.well_formed.0.1) tt in
     let bits-lt : to_bits binary64 c.args.x < 2 ^ 64 = to_bits-lt binary64 c.args.x (held) in
     bits_no_nan binary64 _ (in_place_finite (to_bits binary64 c.args.x) (within) (bits-lt))
 
-pub returns-then-wrapping_sub_u64-lt1143914305083670528 : goal.returns-then-wrapping_sub_u64-lt1143914305083670528
-returns-then-wrapping_sub_u64-lt1143914305083670528 c =
-    let within : Within (to_bits binary64 c.args.x % 2 ^ 63) = passed (to_bits binary64 c.args.x) c.wrapping_sub_u64.result _ c.wrapping_sub_u64.ensures.value c.if-wrapping_sub_u64-lt1143914305083670528.true tt in
+pub returns-then-wrapping_sub_u64-lt-IN_PLACE : goal.returns-then-wrapping_sub_u64-lt-IN_PLACE
+returns-then-wrapping_sub_u64-lt-IN_PLACE c =
+    let within : Within (to_bits binary64 c.args.x % 2 ^ 63) = passed (to_bits binary64 c.args.x) c.wrapping_sub_u64.result _ c.wrapping_sub_u64.ensures.value c.if-wrapping_sub_u64-lt-IN_PLACE.true tt in
     let held : T (fits binary64 c.args.x) = subst T (sym c.well_formed.0.1) tt in
     let bits-lt : to_bits binary64 c.args.x < 2 ^ 64 = to_bits-lt binary64 c.args.x (held) in
     let x = c.args.x in
