@@ -72,7 +72,8 @@ fn add_entry(
     requires { (row < n) × (col < n) × (need n ≤ length w.old) × (r < 6) × (c < 6) }
     ensures { (result, w.new) ≡ entry_added lower_triangle n row col jr.now r jc.now c w.old }
 {
-    if row < col {
+    let above = row < col;
+    if above {
         return Went::Well;
     }
     let v = dot(jr, r, jc, c);

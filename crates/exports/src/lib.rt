@@ -137,7 +137,8 @@ pub extern "C" fn pgo_quaternion_of_matrix(m: &[f32], out: &mut [f32]) -> u32
 pub extern "C" fn pgo_product(a: &[f32], b: &[f32], out: &mut [f32]) -> u32
     ensures { (result, out.new) ≡ product_out a.now b.now out.old }
 {
-    if !((a.len() == 7) & ((b.len() == 7) & (out.len() == 7))) {
+    let fit = (a.len() == 7) & ((b.len() == 7) & (out.len() == 7));
+    if !fit {
         return UNFIT;
     }
     let p = rotations::product_of(transform_from(a), transform_from(b));

@@ -96,7 +96,8 @@ fn stop(number: u32, place: usize) -> Step
 fn close(s: &[u8], at: usize) -> Step
     ensures { result ≡ closed (says (end_faults s.now) at) }
 {
-    if at < s.len() {
+    let more = at < s.len();
+    if more {
         return stop(30, at);
     }
     Step::Done

@@ -187,7 +187,8 @@ fn swings_by(q: Quat, c: usize) -> Swings
 fn swings_at(q: Quat, shift: Swing, c: usize) -> Swings
     ensures { result ≡ swings_at q shift c }
 {
-    if c < 3 {
+    let shifts = c < 3;
+    if shifts {
         Swings {
             ahead: shift,
             behind: shift,

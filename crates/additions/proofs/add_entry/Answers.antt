@@ -5,11 +5,11 @@ use borrow.Author.Tests.{lt-leb, le-leb}
 use Rattle.additions.specs.Additions.{entry_added}
 use Rattle.additions.proofs.add_entry.Goals as goal
 
-pub returns-then-row-col : goal.returns-then-row-col
+pub returns-then-above : goal.returns-then-above
 unfolding entry_added
-returns-then-row-col c =
+returns-then-above c =
     let a = c.args in
-    rw (lt-leb a.col a.row c.if-row-col.true)
+    rw (lt-leb a.col a.row c.if-above.true)
 
 pub overflow_mul-col : goal.overflow_mul-col
 overflow_mul-col c =
@@ -33,4 +33,4 @@ pub returns : goal.returns
 unfolding entry_added
 returns c =
     let a = c.args in
-    rw (le-leb a.col a.row c.if-row-col.false, ← c.dot-v.ensures) c.add_to.ensures
+    rw (le-leb a.col a.row c.if-above.false, ← c.dot-v.ensures) c.add_to.ensures

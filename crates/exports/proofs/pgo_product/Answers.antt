@@ -8,9 +8,9 @@ use Rattle.exports.specs.Layers.{product_out}
 use Rattle.slices.proofs.Laws.{copied_as}
 use Rattle.exports.proofs.pgo_product.Goals as goal
 
-pub returns-then-not-a-b : goal.returns-then-not-a-b
+pub returns-then-not-fit : goal.returns-then-not-fit
 unfolding product_out
-returns-then-not-a-b c = turned_away _ refl c.if-not-a-b.true-raw refl
+returns-then-not-fit c = turned_away _ refl c.if-not-fit.true-raw refl
 
 pub slice_bounds-copy32-end : goal.slice_bounds-copy32-end
 slice_bounds-copy32-end c = sym (ap length c.transform_numbers.ensures)
@@ -18,10 +18,10 @@ slice_bounds-copy32-end c = sym (ap length c.transform_numbers.ensures)
 pub returns : goal.returns
 unfolding product_out
 returns c =
-    passed _ refl c.if-not-a-b.false-raw
+    passed _ refl c.if-not-fit.false-raw
     (rw (
       copied_as _ c.args.out.now c.transform_numbers.ensures
-          (eqb-true _ _ (and_second (eqb (length c.args.b.now) 7) _ (and_second (eqb (length c.args.a.now) 7) _ c.if-not-a-b.false)))
+          (eqb-true _ _ (and_second (eqb (length c.args.b.now) 7) _ (and_second (eqb (length c.args.a.now) 7) _ c.if-not-fit.false)))
           c.copy32.ensures,
       c.product_of-p.ensures,
       c.transform_from-2.ensures,
