@@ -1,111 +1,49 @@
--- A block on the diagonal of the Hessian, whichever of its entries are kept: it goes well exactly if every kept entry's sum is finite, and then those sums
--- stand in their places and all other numbers are as they were. Assumes nothing.
-use mathlib.Core.Path.{◌≡◌, refl, sym, ap, ap₂, ◌∙◌}
-use mathlib.Core.Bool.{Bool, true, false, not, ◌||◌}
+-- A block on the diagonal of the Hessian, whichever of its entries are kept: the laws of `proofs/Blocks.antt` where one block is both the rows' and the
+-- columns'. Assumes nothing.
+use mathlib.Core.Path.{◌≡◌}
+use mathlib.Core.Bool.{Bool, true}
 use mathlib.Core.List.{List}
-use mathlib.Core.Logic.{⊎_elim}
-use Prim.Native.Nat.{ℕ, ◌+◌, ◌*◌, ◌/◌, ◌%◌, ◌<◌, ◌≤◌}
-use native.Mathlib.Nat.{le_trans, div-add-mod', div-lt_iff_lt-mul, mod-lt, eq-or-lt_of_le}
-use native.Mathlib.Omega.{arith}
-use lib.Arith.{digits_div, digits_mod, digits_lt}
-use lib.ListN.{length, get_or}
-use lib.Ieee.{Float, nan}
+use Prim.Native.Nat.{ℕ, ◌+◌, ◌*◌, ◌<◌, ◌≤◌}
+use lib.ListN.{length}
+use lib.Ieee.{Float}
 use lib.Ieee.Scale.{finite}
-use borrow.Author.Tests.{lt-ltb}
-use Rattle.numbers.specs.Notation.{◌⊞◌, if_then}
-use Rattle.numbers.specs.Walks.{every, each, well}
-use Rattle.numbers.proofs.Walking.{each_ext}
-use Rattle.profile.specs.Layout.{hessian_of}
-use Rattle.additions.specs.Additions.{dot_of, entry_added, row_added, block_added}
-use Rattle.numbers.proofs.Rows.{told, each_nested}
-use Rattle.additions.proofs.Additions.{adding, Sofar, all_added}
+use Rattle.numbers.specs.Walks.{every}
+use Rattle.numbers.proofs.Rows.{told}
+use Rattle.additions.specs.Additions.{block_added}
+use Rattle.additions.proofs.Blocks as any
 
 -- two entries that stand in one place are one entry
 pub one_place : (n i j i' j' : ℕ) → i < n → i' < n → j * n + i ≡ j' * n + i' → (i ≡ i') × (j ≡ j')
-one_place n i j i' j' l l' e = (sym (digits_mod j l) ∙ ap (λ q. q % n) e ∙ digits_mod j' l', sym (digits_div j l) ∙ ap (λ q. q / n) e ∙ digits_div j' l')
+one_place = any.one_place
 
 module _ (n dof b : ℕ) (j : List (List Float)) (w : List Float) where
   -- what the entry in the block's row r and column c becomes
   abbrev pub sum_at : ℕ → ℕ → Float
-  sum_at r c = hessian_of w n (b * dof + r) (b * dof + c) ⊞ dot_of j r j c
+  sum_at = any.sum_at n dof b b j j w
 
   module _ (keeps : ℕ → ℕ → Bool) where
     abbrev pub kept_at : ℕ → ℕ → Bool
-    kept_at r c = keeps (b * dof + r) (b * dof + c)
+    kept_at = any.kept_at n dof b b j j w keeps
 
     -- the work with a block added
-    pub record Added (y : List Float) : Type 0 where
-      pub as_long : length y ≡ length w
-      pub inside : (r c : ℕ) → r < dof → c < dof → kept_at r c ≡ true → hessian_of y n (b * dof + r) (b * dof + c) ≡ sum_at r c
-      pub outside : (q : ℕ) → ((r c : ℕ) → r < dof → c < dof → q ≡ (b * dof + c) * n + (b * dof + r) → ⊥) → get_or y q nan ≡ get_or w q nan
+    abbrev pub Added : List Float → Type 0
+    Added = any.Added n dof b b j j w keeps
 
-    -- entry k, row by row: whether it is kept, its place, what is added, and what is asked of the sum
-    abbrev test : ℕ → Bool
-    test k = kept_at (k / dof) (k % dof)
-
-    abbrev place : ℕ → ℕ
-    place k = (b * dof + k % dof) * n + (b * dof + k / dof)
-
-    abbrev value : ℕ → Float
-    value k = dot_of j (k / dof) j (k % dof)
-
+    -- what is asked of the sum of entry k, row by row
     abbrev pub asked : ℕ → Bool
-    asked k = not (test k) || finite (sum_at (k / dof) (k % dof))
-
-    as_row : block_added keeps n dof b b j j w ≡ well (each (adding test place value) (dof * dof) w)
-    unfolding block_added row_added entry_added
-    as_row =
-        ap well (each_ext _ _ dof w (λ r h y. ap well (each_ext _ _ dof y (λ c l z. rw (digits_div r l, digits_mod r l)))))
-        ∙ each_nested (adding test place value) dof dof w
-
-    -- its row and its column
-    wide : (k : ℕ) → k < dof * dof → 0 < dof
-    wide k l = ⊎_elim (λ (e : 0 ≡ dof). absurd (let z : k < 0 * 0 = rw (← e) at l in omega arith)) (λ (h : 0 < dof). h) (eq-or-lt_of_le (omega arith))
-
-    row_in : (k : ℕ) → k < dof * dof → k / dof < dof
-    row_in k l = (div-lt_iff_lt-mul (wide k l)).1 l
-
-    col_in : (k : ℕ) → k < dof * dof → k % dof < dof
-    col_in k l = mod-lt k (wide k l)
+    asked = any.asked n dof b b j j w keeps
 
     -- all that is asked holds exactly if the kept sums are finite
     abbrev pub AllFinite : Type 0
     AllFinite = (r c : ℕ) → r < dof → c < dof → kept_at r c ≡ true → finite (sum_at r c) ≡ true
 
     pub then_finite : ((k : ℕ) → k < dof * dof → asked k ≡ true) → AllFinite
-    then_finite h r c l o t =
-        let i : (not (kept_at r c) || finite (sum_at r c)) ≡ true = rw (digits_div r o, digits_mod r o) at (h (r * dof + c) (digits_lt l o)) in
-        rw t at i
+    then_finite = any.then_finite n dof b b j j w keeps
 
     pub if_finite : AllFinite → (k : ℕ) → k < dof * dof → asked k ≡ true
-    if_finite h k l = go (test k) refl
-      where
-        go : (t : Bool) → test k ≡ t → (not t || finite (sum_at (k / dof) (k % dof))) ≡ true
-        go true e = h (k / dof) (k % dof) (row_in k l) (col_in k l) e
-        go false e = refl
+    if_finite = any.if_finite n dof b b j j w keeps
 
     module _ (fits : b * dof + dof ≤ n) (room : n * n ≤ length w) where
-      there : (k : ℕ) → k < dof * dof → test k ≡ true → place k < length w
-      there k l _ = let r = row_in k l in let c = col_in k l in le_trans (digits_lt (omega arith) (omega arith)) room
-
-      apart : (i k : ℕ) → i < dof * dof → k < dof * dof → test i ≡ true → test k ≡ true → place i ≡ place k → i ≡ k
-      apart i k li lk _ _ e =
-          let p = one_place n (b * dof + i / dof) (b * dof + i % dof) (b * dof + k / dof) (b * dof + k % dof) (let r = row_in i li in omega arith)
-          (let r = row_in k lk in omega arith) e in
-          let r : i / dof ≡ k / dof = omega (arith, p.0) in
-          let c : i % dof ≡ k % dof = omega (arith, p.1) in
-          sym (div-add-mod' i dof) ∙ ap₂ (λ x y. x * dof + y) r c ∙ div-add-mod' k dof
-
-      added : (y : List Float) → Sofar (dof * dof) test place value w there apart (dof * dof) y → Added y
-      unfolding if_then
-      added y s = record { as_long = s.as_long; inside = inside; outside = λ q o. s.others q (λ k l _. o (k / dof) (k % dof) (row_in k l) (col_in k l)) }
-        where
-          inside : (r c : ℕ) → r < dof → c < dof → kept_at r c ≡ true → hessian_of y n (b * dof + r) (b * dof + c) ≡ sum_at r c
-          inside r c l o t =
-              let m : r * dof + c < dof * dof = digits_lt l o in
-              let q = s.places (r * dof + c) m (rw (digits_div r o, digits_mod r o) t) in
-              rw (lt-ltb (r * dof + c) (dof * dof) m, digits_div r o, digits_mod r o) at q
-
       pub block_added_lem : ((block_added keeps n dof b b j j w).0 ≡ told (every asked (dof * dof)))
           × (every asked (dof * dof) ≡ true → Added (block_added keeps n dof b b j j w).1)
-      block_added_lem = let a = all_added (dof * dof) test place value w there apart in rw as_row (a.0, λ e. added _ (a.1 e))
+      block_added_lem = any.block_added_lem n dof b b j j w keeps fits fits room

@@ -3,5 +3,5 @@ pub mod Fitting
 pub mod Parts
 pub mod Products
 pub mod Additions
-pub mod DiagonalBlocks
 pub mod Blocks
+pub mod DiagonalBlocks

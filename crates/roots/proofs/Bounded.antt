@@ -12,6 +12,7 @@ use lib.Ieee.Exact.{HasValue, odd_sign, units_val}
 use lib.Ieee.Nearest.{closest, closest_mono}
 use lib.Ieee.Order.{drop, kept, round_mono}
 use lib.Ieee.Scale.{grid, overflow, finite, round_val}
+use Rattle.numbers.proofs.Counts.{split}
 use Rattle.numbers.specs.Notation.{◌⊗◌, ◌⊞◌, num, ratio, ratio32}
 use Rattle.numbers.specs.Walks.{sum_of}
 use Rattle.roots.specs.Roots.{root, rooted, root64}
@@ -35,9 +36,6 @@ finite_of_value (fin t m e) s g c h = tt
 
 overflow_is : (f : Format) → 2 ^ suc (emax f) * 2 ^ low f ≡ overflow f
 overflow_is f = mul_comm (2 ^ suc (emax f)) (2 ^ low f) ∙ sym (pow-add 2 (low f) (suc (emax f)))
-
-split : (q j k : ℕ) → k ≤ j → q * 2 ^ (j - k) * 2 ^ k ≡ q * 2 ^ j
-split q j k l = mul_assoc q (2 ^ (j - k)) (2 ^ k) ∙ ap (λ (x : ℕ). q * x) (sym (pow-add 2 (j - k) k) ∙ ap (λ (x : ℕ). 2 ^ x) (back j k l))
 
 pub finite_at_most : {n : ℕ} {x : Float} → AtMost n x → T (finite x)
 finite_at_most (upto h) = tt
