@@ -1,7 +1,7 @@
 // What programs read: standard input up to as many bytes as can matter, and a read that failed told from the end of the input.
 #![tactic(auto)]
 
-ghost use Rattle.std.specs.Prelude.{◌≡◌, ◌<◌, false, length, take};
+ghost use Rattle.std.specs.Prelude.{◌≡◌, ◌<◌, true, false, length, take};
 ghost use Rattle.io.specs.Counts.{IsPrefixLen};
 ghost use Rattle.std.specs.Io.KnownBytes.{Consumes, IsAtEnd};
 
@@ -20,6 +20,7 @@ pub fn read_input<R: Read>(from: &mut R, buf: &mut [u8]) -> Intake
     ensures in_bounds { IsPrefixLen result.bytes buf.new }
     ensures bytes { Consumes (R.remaining from.old) (R.remaining from.new) (take result.bytes buf.new) }
     ensures end { result.failed ≡ false → result.bytes < length buf.new → IsAtEnd (R.remaining from.new) }
+    ensures failing { result.failed ≡ true → result.bytes < length buf.new }
 {
     let mut n = 0usize;
     while n < buf.len() {
