@@ -11,8 +11,7 @@ use lib.Ieee.{Float, nan}
 use lib.Ieee.Scale.{finite}
 use borrow.Author.Tests.{lt-ltb, le-ltb, ltb-true, ltb-false, eqb-true, eqb-false}
 use Rattle.numbers.specs.Notation.{◌⊞◌, if_then}
-use Rattle.numbers.specs.Walks.{every, each, well, only, must_be_finite}
-use Rattle.numbers.specs.declared.Went.{Went}
+use Rattle.numbers.specs.Walks.{every, each, well, only, must_be_finite, Went}
 use Rattle.additions.specs.Additions.{add_to}
 use Rattle.numbers.proofs.Rows.{told, each_told}
 

@@ -1,13 +1,12 @@
 -- What a free end adds, and what two add, by what went well of it. Assumes nothing.
+use Rattle.std.specs.Prelude.{Err, Ok}
 use mathlib.Core.Path.{◌≡◌, ap, sym, ◌∙◌}
 use mathlib.Core.List.{List, ◌++◌}
 use Prim.Native.Nat.{ℕ, ◌+◌, ◌*◌}
 use lib.Ieee.{Float}
 use lib.ListN.{take, drop}
-use Rattle.numbers.specs.Walks.{and_then}
+use Rattle.numbers.specs.Walks.{and_then, Went}
 use Rattle.numbers.specs.declared.Failure.{Failure}
-use Rattle.numbers.specs.declared.Went.{Went}
-use Rattle.numbers.specs.declared.Went.TheVariants.{Well, Bad}
 use Rattle.numbers.proofs.Walking.{then_failed, then_went}
 use Rattle.numbers.proofs.Parted.{part_from, with_part, part_from_lem, with_part_lem}
 use Rattle.additions.specs.Additions.{on_part, gradient_added, lower_triangle, block_added, end_added, cross_added, ends_added}
@@ -26,13 +25,13 @@ lent_part f at w {r} {s} {ys} e q =
 -- a free end whose gradient could not be added, and one whose gradient could
 module _ (n dof b : ℕ) (j : List (List Float)) (r w : List Float) where
   pub end_failed : {went : Went} {why : Failure} {ys : List Float}
-      → (went, ys) ≡ gradient_added dof j r (part_from (n * n + n + b * dof) w) → went ≡ Bad why
-      → (Bad why, with_part (n * n + n + b * dof) w ys) ≡ end_added lower_triangle n dof b j r w
+      → (went, ys) ≡ gradient_added dof j r (part_from (n * n + n + b * dof) w) → went ≡ Err why
+      → (Err why, with_part (n * n + n + b * dof) w ys) ≡ end_added lower_triangle n dof b j r w
   unfolding end_added
   end_failed e q = then_failed _ _ (lent_part (gradient_added dof j r) (n * n + n + b * dof) w e q)
 
   pub end_went : {went said : Went} {ys last : List Float}
-      → (went, ys) ≡ gradient_added dof j r (part_from (n * n + n + b * dof) w) → went ≡ Well
+      → (went, ys) ≡ gradient_added dof j r (part_from (n * n + n + b * dof) w) → went ≡ Ok tt
       → (said, last) ≡ block_added lower_triangle n dof b b j j (with_part (n * n + n + b * dof) w ys)
       → (said, last) ≡ end_added lower_triangle n dof b j r w
   unfolding end_added
@@ -40,15 +39,15 @@ module _ (n dof b : ℕ) (j : List (List Float)) (r w : List Float) where
 
 -- two free ends
 module _ (n dof i k : ℕ) (ja jb : List (List Float)) (r w : List Float) {x : Went} {wa : List Float} (a : (x, wa) ≡ end_added lower_triangle n dof i ja r w) where
-  pub ends_lost_a : {why : Failure} → x ≡ Bad why → (Bad why, wa) ≡ ends_added lower_triangle n dof i k ja jb r w
+  pub ends_lost_a : {why : Failure} → x ≡ Err why → (Err why, wa) ≡ ends_added lower_triangle n dof i k ja jb r w
   unfolding ends_added and_then
   ends_lost_a e = rw (← a, e)
 
-  module _ (e : x ≡ Well) {y : Went} {wb : List Float} (b : (y, wb) ≡ end_added lower_triangle n dof k jb r wa) where
-    pub ends_lost_b : {why : Failure} → y ≡ Bad why → (Bad why, wb) ≡ ends_added lower_triangle n dof i k ja jb r w
+  module _ (e : x ≡ Ok tt) {y : Went} {wb : List Float} (b : (y, wb) ≡ end_added lower_triangle n dof k jb r wa) where
+    pub ends_lost_b : {why : Failure} → y ≡ Err why → (Err why, wb) ≡ ends_added lower_triangle n dof i k ja jb r w
     unfolding ends_added and_then
     ends_lost_b f = rw (← a, e, ← b, f)
 
-    pub ends_had : {s : Went × List Float} → y ≡ Well → s ≡ cross_added lower_triangle n dof i k ja jb wb → s ≡ ends_added lower_triangle n dof i k ja jb r w
+    pub ends_had : {s : Went × List Float} → y ≡ Ok tt → s ≡ cross_added lower_triangle n dof i k ja jb wb → s ≡ ends_added lower_triangle n dof i k ja jb r w
     unfolding ends_added and_then
     ends_had f h = rw (← a, e, ← b, f) h

@@ -1,4 +1,5 @@
 -- When a block stands within the unknowns, and what then is added or not. Assumes nothing.
+use Rattle.std.specs.Prelude.{Ok}
 use mathlib.Core.Path.{◌≡◌, refl, sym, ◌∙◌}
 use mathlib.Core.Bool.{Bool, true, false, not, ◌&&◌}
 use Prim.Native.Nat.{ℕ, ◌+◌, ◌*◌, ◌<◌, ◌≤◌}
@@ -6,9 +7,7 @@ use native.Mathlib.Nat.{mul-le-mul_left, mul-le-mul, lt_of_not-le}
 use native.Mathlib.Omega.{arith}
 use lib.Dec.{leb}
 use borrow.Author.Tests.{le-leb, lt-leb, leb-true, not-true, not-false}
-use Rattle.numbers.specs.Walks.{only}
-use Rattle.numbers.specs.declared.Went.{Went}
-use Rattle.numbers.specs.declared.Went.TheVariants.{Well}
+use Rattle.numbers.specs.Walks.{only, Went}
 use Rattle.profile.specs.Layout.{need}
 use Rattle.additions.specs.Additions.{fits}
 
@@ -60,16 +59,16 @@ within n dof b len {r} e h =
 
 -- ---- nothing is added, or what the step adds
 module _ {S : Type 0} (f : S → Went × S) (s : S) where
-  pub nothing_added : {a r : Bool} → r ≡ a → not r ≡ true → (Well, s) ≡ only a f s
+  pub nothing_added : {a r : Bool} → r ≡ a → not r ≡ true → (Ok tt, s) ≡ only a f s
   nothing_added {r = r} e h = rw (sym e ∙ not-true r h)
 
   pub one_added : {a r : Bool} {x : Went × S} → r ≡ a → not r ≡ false → x ≡ f s → x ≡ only a f s
   one_added {r = r} e h g = rw (sym e ∙ not-false r h) g
 
-  pub second_outside : {a b r t : Bool} → r ≡ a → not r ≡ false → t ≡ b → not t ≡ true → (Well, s) ≡ only (a && b) f s
+  pub second_outside : {a b r t : Bool} → r ≡ a → not r ≡ false → t ≡ b → not t ≡ true → (Ok tt, s) ≡ only (a && b) f s
   second_outside {r = r} {t = t} e h g k = rw (sym e ∙ not-false r h, sym g ∙ not-true t k)
 
-  pub first_outside : {a r : Bool} (b : Bool) → r ≡ a → not r ≡ true → (Well, s) ≡ only (a && b) f s
+  pub first_outside : {a r : Bool} (b : Bool) → r ≡ a → not r ≡ true → (Ok tt, s) ≡ only (a && b) f s
   first_outside {r = r} b e h = rw (sym e ∙ not-true r h)
 
   pub both_added : {a b r t : Bool} {x : Went × S} → r ≡ a → not r ≡ false → t ≡ b → not t ≡ false → x ≡ f s → x ≡ only (a && b) f s

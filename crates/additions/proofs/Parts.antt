@@ -1,4 +1,5 @@
 -- Additions to a part of the work are additions to the whole. Assumes nothing.
+use Rattle.std.specs.Prelude.{Err, Ok}
 use mathlib.Core.Path.{◌≡◌, refl, ap, ◌∙◌}
 use mathlib.Core.List.{List, ◌++◌}
 use Prim.Native.Nat.{ℕ, zero, suc, ◌+◌}
@@ -6,9 +7,7 @@ use native.Mathlib.Omega.{arith}
 use lib.ListN.{take, drop, take-append-drop}
 use lib.Seq.{get_or-drop, take-set-le, drop-set-add}
 use lib.Ieee.{Float, nan}
-use Rattle.numbers.specs.Walks.{Ended, done, stopped, step_end, step_on, each, well}
-use Rattle.numbers.specs.declared.Went.{Went}
-use Rattle.numbers.specs.declared.Went.TheVariants.{Well, Bad}
+use Rattle.numbers.specs.Walks.{Ended, done, stopped, step_end, step_on, each, well, Went}
 use Rattle.numbers.proofs.Invariants.{Good, Over, each_over}
 use Rattle.additions.specs.Additions.{add_to, on_part}
 
@@ -28,8 +27,8 @@ module _ (at : ℕ) (v : ℕ → Float) where
   add_part c w = rw (get_or-drop at w c nan, drop-set-add)
 
   turn_part : (n : ℕ) (x : Went × List Float) → step_end n (x.0, drop at x.1) ≡ part at (step_end n x)
-  turn_part n (Well, w) = refl
-  turn_part n (Bad why, w) = refl
+  turn_part n (Ok _, w) = refl
+  turn_part n (Err why, w) = refl
 
   each_part : (n : ℕ) (w : List Float) → each in_part n (drop at w) ≡ part at (each in_whole n w)
   unfolding each
@@ -45,8 +44,8 @@ module _ (at : ℕ) (v : ℕ → Float) where
   Front w y = take at y ≡ take at w
 
   kept : (w : List Float) (x : Went) (y : List Float) → Front w y → Good (Front w) (Front w) (x, y)
-  kept w Well y e = e
-  kept w (Bad why) y e = e
+  kept w (Ok _) y e = e
+  kept w (Err why) y e = e
 
   stored : (w : List Float) (c : ℕ) (y : List Float) → Front w y → Front w (in_whole c y).1
   unfolding add_to
@@ -59,5 +58,5 @@ module _ (at : ℕ) (v : ℕ → Float) where
   part_each n w = ap (λ (e : Ended (List Float)). ((well e).0, take at w ++ (well e).1)) (each_part n w) ∙ go (each in_whole n w) (front_kept n w)
     where
       go : (e : Ended (List Float)) → Over (Front w) (Front w) e → ((well (part at e)).0, take at w ++ (well (part at e)).1) ≡ well e
-      go (done y) q = ap (λ (l : List Float). (Well, l)) (rw (← q) (take-append-drop at y))
-      go (stopped k why y) q = ap (λ (l : List Float). (Bad why, l)) (rw (← q) (take-append-drop at y))
+      go (done y) q = ap (λ (l : List Float). (Ok tt, l)) (rw (← q) (take-append-drop at y))
+      go (stopped k why y) q = ap (λ (l : List Float). (Err why, l)) (rw (← q) (take-append-drop at y))

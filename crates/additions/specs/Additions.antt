@@ -3,8 +3,7 @@
 use Rattle.std.specs.Prelude.{ℕ, ◌+◌, ◌*◌, Bool, true, ◌&&◌, List, [], ◌++◌, ltb, leb, get_or, set, take, drop, Float}
 use Rattle.std.specs.Float.{nan, binary32}
 use Rattle.numbers.specs.Notation.{◌⊞◌, ◌⊠◌, if_then}
-use Rattle.numbers.specs.Walks.{sum_of, each, well, only, and_then, must_be_finite}
-use Rattle.numbers.specs.declared.Went.{Went}
+use Rattle.numbers.specs.Walks.{sum_of, each, well, only, and_then, must_be_finite, Went}
 use Rattle.profile.specs.Layout.{need}
 
 -- the number in row k and column i of a Jacobian

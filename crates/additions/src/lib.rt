@@ -8,7 +8,7 @@ ghost use Rattle.profile.specs.Layout.{need};
 ghost use Rattle.additions.specs.Additions.{fits, dot_of, dot_with, add_to, gradient_added, lower_triangle, entry_added, row_added, block_added};
 ghost use Rattle.additions.specs.Additions.{end_added, cross_added, ends_added};
 
-use numbers::Went;
+use numbers::Failure;
 
 // Column i of a times column j of b: six products in residual order, from +0.
 fn dot(a: &[[f32; 6]; 6], i: usize, b: &[[f32; 6]; 6], j: usize) -> f32
@@ -35,7 +35,7 @@ fn dot_with(a: &[[f32; 6]; 6], i: usize, r: &[f32; 6]) -> f32
 }
 
 // v is added to the number at a place, which must be finite then.
-fn add_to(w: &mut [f32], at: usize, v: f32) -> Went
+fn add_to(w: &mut [f32], at: usize, v: f32) -> Result<(), Failure>
     requires { at < length w.old }
     ensures { (result, w.new) ≡ add_to w.old at v }
 {
@@ -45,17 +45,19 @@ fn add_to(w: &mut [f32], at: usize, v: f32) -> Went
 }
 
 // A pose's gradient, in the part of the work that starts at its block.
-fn accumulate_gradient(part: &mut [f32], dof: usize, j: &[[f32; 6]; 6], r: &[f32; 6]) -> Went
+fn accumulate_gradient(
+    part: &mut [f32],
+    dof: usize,
+    j: &[[f32; 6]; 6],
+    r: &[f32; 6],
+) -> Result<(), Failure>
     requires { (dof ≤ 6) × (dof ≤ length part.old) }
     ensures { (result, part.new) ≡ gradient_added dof j.now r.now part.old }
 {
     for c in 0..dof {
-        let v = dot_with(j, c, r);
-        if let Went::Bad(why) = add_to(part, c, v) {
-            return Went::Bad(why);
-        }
+        add_to(part, c, dot_with(j, c, r))?;
     }
-    Went::Well
+    Ok(())
 }
 
 // One entry of the Hessian, if it stands in the lower triangle.
@@ -68,13 +70,13 @@ fn add_entry(
     r: usize,
     jc: &[[f32; 6]; 6],
     c: usize,
-) -> Went
+) -> Result<(), Failure>
     requires { (row < n) × (col < n) × (need n ≤ length w.old) × (r < 6) × (c < 6) }
     ensures { (result, w.new) ≡ entry_added lower_triangle n row col jr.now r jc.now c w.old }
 {
     let above = row < col;
     if above {
-        return Went::Well;
+        return Ok(());
     }
     let v = dot(jr, r, jc, c);
     add_to(w, col * n + row, v)
@@ -90,16 +92,14 @@ fn accumulate_row(
     jr: &[[f32; 6]; 6],
     jc: &[[f32; 6]; 6],
     r: usize,
-) -> Went
+) -> Result<(), Failure>
     requires { (rb * dof + dof ≤ n) × (cb * dof + dof ≤ n) × (need n ≤ length w.old) × (dof ≤ 6) × (r < dof) }
     ensures { (result, w.new) ≡ row_added lower_triangle n dof rb cb jr.now jc.now r w.old }
 {
     for c in 0..dof {
-        if let Went::Bad(why) = add_entry(w, n, rb * dof + r, cb * dof + c, jr, r, jc, c) {
-            return Went::Bad(why);
-        }
+        add_entry(w, n, rb * dof + r, cb * dof + c, jr, r, jc, c)?;
     }
-    Went::Well
+    Ok(())
 }
 
 // The block of rows rb and columns cb, row by row.
@@ -111,16 +111,14 @@ fn accumulate_hessian(
     cb: usize,
     jr: &[[f32; 6]; 6],
     jc: &[[f32; 6]; 6],
-) -> Went
+) -> Result<(), Failure>
     requires { (rb * dof + dof ≤ n) × (cb * dof + dof ≤ n) × (need n ≤ length w.old) × (dof ≤ 6) }
     ensures { (result, w.new) ≡ block_added lower_triangle n dof rb cb jr.now jc.now w.old }
 {
     for r in 0..dof {
-        if let Went::Bad(why) = accumulate_row(w, n, dof, rb, cb, jr, jc, r) {
-            return Went::Bad(why);
-        }
+        accumulate_row(w, n, dof, rb, cb, jr, jc, r)?;
     }
-    Went::Well
+    Ok(())
 }
 
 // Whether block b of dof unknowns stands within the n unknowns, and `len` numbers have room for them.
@@ -147,14 +145,12 @@ fn end_within(
     b: usize,
     j: &[[f32; 6]; 6],
     r: &[f32; 6],
-) -> Went
+) -> Result<(), Failure>
     requires { (b * dof + dof ≤ n) × (need n ≤ length w.old) × (dof ≤ 6) }
     ensures { (result, w.new) ≡ end_added lower_triangle n dof b j.now r.now w.old }
 {
     let at = n * n + n + b * dof;
-    if let Went::Bad(why) = accumulate_gradient(&mut w[at..], dof, j, r) {
-        return Went::Bad(why);
-    }
+    accumulate_gradient(&mut w[at..], dof, j, r)?;
     accumulate_hessian(w, n, dof, b, b, j, j)
 }
 
@@ -166,11 +162,11 @@ pub fn add_end(
     b: usize,
     j: &[[f32; 6]; 6],
     r: &[f32; 6],
-) -> Went
+) -> Result<(), Failure>
     ensures { (result, w.new) ≡ only (fits n dof b (length w.old)) (end_added lower_triangle n dof b j.now r.now) w.old }
 {
     if !block_fits(w.len(), n, dof, b) {
-        return Went::Well;
+        return Ok(());
     }
     end_within(w, n, dof, b, j, r)
 }
@@ -184,7 +180,7 @@ fn add_cross(
     bb: usize,
     ja: &[[f32; 6]; 6],
     jb: &[[f32; 6]; 6],
-) -> Went
+) -> Result<(), Failure>
     requires { (ba * dof + dof ≤ n) × (bb * dof + dof ≤ n) × (need n ≤ length w.old) × (dof ≤ 6) }
     ensures { (result, w.new) ≡ cross_added lower_triangle n dof ba bb ja.now jb.now w.old }
 {
@@ -204,21 +200,17 @@ pub fn add_ends(
     ja: &[[f32; 6]; 6],
     jb: &[[f32; 6]; 6],
     r: &[f32; 6],
-) -> Went
+) -> Result<(), Failure>
     ensures { (result, w.new) ≡ only (fits n dof i (length w.old) && fits n dof k (length w.old))
         (ends_added lower_triangle n dof i k ja.now jb.now r.now) w.old }
 {
     if !block_fits(w.len(), n, dof, i) {
-        return Went::Well;
+        return Ok(());
     }
     if !block_fits(w.len(), n, dof, k) {
-        return Went::Well;
+        return Ok(());
     }
-    if let Went::Bad(why) = end_within(w, n, dof, i, ja, r) {
-        return Went::Bad(why);
-    }
-    if let Went::Bad(why) = end_within(w, n, dof, k, jb, r) {
-        return Went::Bad(why);
-    }
+    end_within(w, n, dof, i, ja, r)?;
+    end_within(w, n, dof, k, jb, r)?;
     add_cross(w, n, dof, i, k, ja, jb)
 }

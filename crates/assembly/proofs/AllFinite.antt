@@ -1,4 +1,7 @@
 -- Where an assembly is done every number of the system is a finite f32. Assumes nothing.
+use Rattle.assembly.specs.declared.AssemblyError.TheVariants as assembly_error
+use Rattle.assembly.specs.declared.AssemblyError.{AssemblyError}
+use Rattle.std.specs.Prelude.{Err, Ok, Result, ⊤}
 use mathlib.Core.Path.{◌≡◌, refl, ap, subst}
 use mathlib.Core.Bool.{Bool, true, false}
 use mathlib.Core.List.{List}
@@ -16,7 +19,6 @@ use Rattle.numbers.specs.Notation.{◌⊞◌, ratio, num, if_then}
 use Rattle.numbers.specs.Walks.{Ended, done, stopped, must_be_finite}
 use Rattle.numbers.specs.declared.Failure.{Failure}
 use Rattle.numbers.specs.declared.Failure.TheVariants.{Numerical}
-use Rattle.numbers.specs.declared.Went.TheVariants.{Well, Bad}
 use Rattle.rotations.specs.declared.Pose.{Pose}
 use Rattle.graph.specs.Graph.{Links}
 use Rattle.graph.specs.declared.Edge.{Edge}
@@ -25,8 +27,6 @@ use Rattle.profile.specs.Layout.{need, hessian_of}
 use Rattle.solve.specs.Work.{gradient_of}
 use Rattle.additions.specs.Additions.{add_to}
 use Rattle.assembly.specs.Assembly.{cleared, assembled_ends, assembled_from, assembled_of}
-use Rattle.assembly.specs.declared.Assembled.{Assembled}
-use Rattle.assembly.specs.declared.Assembled.TheVariants as assembled
 use Rattle.assembly.proofs.Laws.{cleared_zero}
 use Rattle.numbers.proofs.Invariants.{Good, Over}
 use Rattle.assembly.proofs.Walked.{Fits, edges_over}
@@ -48,10 +48,10 @@ zero_fits = tt
 abbrev Any : List Float → Type 0
 Any y = Unit {0}
 
-never_short : {X : Type 0} → assembled.Short ≡ assembled.Done → X
+never_short : {X : Type 0} → ◌≡◌ {A = Result ⊤ AssemblyError} (Err assembly_error.Short) (Ok tt) → X
 never_short e = let z : ◌≡◌ {A = ℕ} 0 1 = cc in absurd (omega arith)
 
-never_bad : {X : Type 0} (k : ℕ) (why : Failure) → assembled.Bad k why ≡ assembled.Done → X
+never_bad : {X : Type 0} (k : ℕ) (why : Failure) → ◌≡◌ {A = Result ⊤ AssemblyError} (Err (assembly_error.BadEdge k why)) (Ok tt) → X
 never_bad k why e = let z : ◌≡◌ {A = ℕ} 0 1 = cc in absurd (omega arith)
 
 module _ (n : ℕ) where
@@ -78,7 +78,7 @@ module _ (n : ℕ) where
       within : p < length y
       within = let t = s.there in omega arith
 
-      go : (t : Float) (x : Bool) → finite t ≡ x → T (fits binary32 t) → Good (Finite n) Any (if_then x Well (Bad Numerical), set y p t)
+      go : (t : Float) (x : Bool) → finite t ≡ x → T (fits binary32 t) → Good (Finite n) Any (if_then x (Ok tt) (Err Numerical), set y p t)
       go t true e f =
           record {
             there = simp length-set s.there;
@@ -102,16 +102,16 @@ module _ (n : ℕ) where
         (edges_over n (Finite n) Any (λ _ _. tt) (λ y i j v h b. added y (j * n + i) v (entry_in i j h b))
         (λ y i v b. added y (n * n + n + i) v (slope_in i b)) m l pose w f (start w))
 
-    pub assembled_finite : (y : List Float) → assembled_of m n l pose w ≡ (assembled.Done, y) → Finite n y
+    pub assembled_finite : (y : List Float) → assembled_of m n l pose w ≡ (Ok tt, y) → Finite n y
     unfolding assembled_of if_then
     assembled_finite y e = go (ltb (length w) (need n)) e
       where
-        ended : (x : Ended (List Float)) → assembled_ends m n l pose w ≡ x → assembled_from x ≡ (assembled.Done, y) → Finite n y
-        ended (done z) h q = subst (Finite n) (ap (λ (x : Assembled × List Float). x.1) q) (edges_finite z h)
-        ended (stopped k why z) h q = never_bad k why (ap (λ (x : Assembled × List Float). x.0) q)
+        ended : (x : Ended (List Float)) → assembled_ends m n l pose w ≡ x → assembled_from x ≡ (Ok tt, y) → Finite n y
+        ended (done z) h q = subst (Finite n) (ap (λ (x : Result ⊤ AssemblyError × List Float). x.1) q) (edges_finite z h)
+        ended (stopped k why z) h q = never_bad k why (ap (λ (x : Result ⊤ AssemblyError × List Float). x.0) q)
 
-        go : (t : Bool) → if_then t (assembled.Short, w) (assembled_from (assembled_ends m n l pose w)) ≡ (assembled.Done, y) → Finite n y
-        go true q = never_short (ap (λ (x : Assembled × List Float). x.0) q)
+        go : (t : Bool) → if_then t (Err assembly_error.Short, w) (assembled_from (assembled_ends m n l pose w)) ≡ (Ok tt, y) → Finite n y
+        go true q = never_short (ap (λ (x : Result ⊤ AssemblyError × List Float). x.0) q)
         go false q = ended (assembled_ends m n l pose w) refl q
 
 -- ---- as the solve reads them

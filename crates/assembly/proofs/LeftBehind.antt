@@ -1,5 +1,6 @@
 -- What an assembly leaves in the work, done or stopped: as many numbers; past n (n + 3) those that it found; and +0 in every place that is neither
 -- in the lower triangle of H nor in the gradient, so that a solve finds its scratch and its step clear. Assumes nothing.
+use Rattle.std.specs.Prelude.{Err, Ok}
 use mathlib.Core.Path.{◌≡◌, refl, sym, ap, ◌∙◌}
 use mathlib.Core.Bool.{Bool, true, false}
 use mathlib.Core.List.{List}
@@ -12,9 +13,7 @@ use lib.Seq.{get_or-set_other}
 use lib.Ieee.{Float, nan}
 use borrow.Author.Tests.{le-ltb, ltb-true, ltb-false}
 use Rattle.numbers.specs.Notation.{◌⊞◌, num, if_then}
-use Rattle.numbers.specs.Walks.{Ended, done, stopped, must_be_finite}
-use Rattle.numbers.specs.declared.Went.{Went}
-use Rattle.numbers.specs.declared.Went.TheVariants.{Well, Bad}
+use Rattle.numbers.specs.Walks.{Ended, done, stopped, must_be_finite, Went}
 use Rattle.numbers.proofs.Tables.{is_table}
 use Rattle.rotations.specs.declared.Pose.{Pose}
 use Rattle.graph.specs.Graph.{Links}
@@ -47,8 +46,8 @@ module _ (n : ℕ) (w : List Float) where
       }
 
   said : (x : Went) (y : List Float) → Clean n w y → Good (Clean n w) (Clean n w) (x, y)
-  said Well y s = s
-  said (Bad why) y s = s
+  said (Ok _) y s = s
+  said (Err why) y s = s
 
   added : (y : List Float) (p : ℕ) (v : Float) → place_of n p ≡ kept → p < need n → Clean n w y → Good (Clean n w) (Clean n w) (add_to y p v)
   unfolding add_to

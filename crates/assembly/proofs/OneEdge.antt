@@ -1,5 +1,7 @@
 -- What an edge that goes well does to the system: to each entry of the lower triangle and of the gradient that it concerns its part is added, once, and all
 -- others stay as they were. Assumes nothing.
+use Rattle.exp_log.specs.Formats.{Twist}
+use Rattle.std.specs.Prelude.{Err, None, Ok, Option, Result, Some}
 use mathlib.Core.Path.{◌≡◌, refl, sym, ap, subst, ◌∙◌}
 use mathlib.Core.Bool.{Bool, true, false, ◌&&◌, ◌||◌, true≢false}
 use mathlib.Core.List.{List, []}
@@ -12,21 +14,15 @@ use lib.ListN.{length}
 use lib.Ieee.{Float}
 use borrow.Author.Tests.{le-leb, lt-ltb, ltb-true, ltb-false, eqb-true, eqb-false}
 use Rattle.numbers.specs.Notation.{◌⊞◌, if_then}
-use Rattle.numbers.specs.Walks.{every, and_then}
+use Rattle.numbers.specs.Walks.{every, and_then, Went}
 use Rattle.numbers.specs.declared.Failure.{Failure}
-use Rattle.numbers.specs.declared.Went.{Went}
-use Rattle.numbers.specs.declared.Went.TheVariants.{Well, Bad}
 use Rattle.numbers.proofs.Rows.{told}
 use Rattle.rotations.specs.declared.Pose.{Pose}
 use Rattle.graph.specs.Graph.{Links}
 use Rattle.graph.specs.Lent.{dof_of}
 use Rattle.graph.specs.declared.Edge.{Edge}
 use Rattle.graph.specs.declared.Manifold.{Manifold}
-use Rattle.graph.specs.declared.Slot.{Slot}
-use Rattle.graph.specs.declared.Slot.TheVariants.{Block, Fixed}
 use Rattle.residual.specs.Residuals.{residual_of, six_of}
-use Rattle.residual.specs.declared.Residual.{Residual}
-use Rattle.residual.specs.declared.Residual.TheVariants.{Six, Failed}
 use Rattle.residual.specs.declared.EdgeEndpoint.{EdgeEndpoint}
 use Rattle.residual.specs.declared.EdgeEndpoint.TheVariants.{A, B}
 use Rattle.jacobians.specs.Jacobians.{with_six, jacobian_of}
@@ -42,24 +38,24 @@ use Rattle.assembly.proofs.Edges.{dof_some}
 
 -- ---- steps that went well
 
-never_bad : {X : Type 0} (why : Failure) (x y : List Float) → ◌≡◌ {A = Went × List Float} (Bad why, x) (Well, y) → X
-never_bad why x y e = let q : Bad why ≡ Well = ap (λ (x : Went × List Float). x.0) e in absurd (let z : ◌≡◌ {A = ℕ} 0 1 = cc in omega arith)
+never_bad : {X : Type 0} (why : Failure) (x y : List Float) → ◌≡◌ {A = Went × List Float} (Err why, x) (Ok tt, y) → X
+never_bad why x y e = let q : Err why ≡ (Ok tt) = ap (λ (x : Went × List Float). x.0) e in absurd (let z : ◌≡◌ {A = ℕ} 0 1 = cc in omega arith)
 
-told_well : (b : Bool) → told b ≡ Well → b ≡ true
+told_well : (b : Bool) → told b ≡ Ok tt → b ≡ true
 unfolding if_then
 told_well true e = refl
 told_well false e = absurd (let z : ◌≡◌ {A = ℕ} 0 1 = cc in omega arith)
 
 -- what is known of a step whose test must hold, if it went well
-told_then : (P : List Float → Type 0) (b : Bool) {x : Went × List Float} {y : List Float} → (x.0 ≡ told b) × (b ≡ true → P x.1) → x ≡ (Well, y) → P y
+told_then : (P : List Float → Type 0) (b : Bool) {x : Went × List Float} {y : List Float} → (x.0 ≡ told b) × (b ≡ true → P x.1) → x ≡ (Ok tt, y) → P y
 told_then P b a e =
     subst (λ (x : Went × List Float). P x.1) e (a.1 (told_well b (sym a.0 ∙ ap (λ (x : Went × List Float). x.0) e)))
 
-then_both : (x : Went × List Float) (f : List Float → Went × List Float) (y : List Float) → and_then x f ≡ (Well, y)
-    → (z : List Float) × (x ≡ (Well, z)) × (f z ≡ (Well, y))
+then_both : (x : Went × List Float) (f : List Float → Went × List Float) (y : List Float) → and_then x f ≡ (Ok tt, y)
+    → (z : List Float) × (x ≡ (Ok tt, z)) × (f z ≡ (Ok tt, y))
 unfolding and_then
-then_both (Well, z) f y e = (z, refl, e)
-then_both (Bad why, z) f y e = never_bad why z y e
+then_both (Ok _, z) f y e = (z, refl, e)
+then_both (Err why, z) f y e = never_bad why z y e
 
 -- v is added where the test holds
 abbrev pub add_if : Bool → Float → Float → Float
@@ -89,7 +85,7 @@ module _ (n : ℕ) where
 module _ (n dof : ℕ) (some : 0 < dof) where
   -- ---- a block: the entries with rows in block rb and columns in block cb
   module _ (rb cb : ℕ) (jr jc : List (List Float)) (w y : List Float) (rows_fit : rb * dof + dof ≤ n) (columns-fit : cb * dof + dof ≤ n)
-      (room : n * n ≤ length w) (went : block_added lower_triangle n dof rb cb jr jc w ≡ (Well, y)) where
+      (room : n * n ≤ length w) (went : block_added lower_triangle n dof rb cb jr jc w ≡ (Ok tt, y)) where
     all_of_it : Added n dof rb cb jr jc w lower_triangle y
     all_of_it =
         told_then (Added n dof rb cb jr jc w lower_triangle) (every (asked n dof rb cb jr jc w lower_triangle) (dof * dof))
@@ -126,7 +122,7 @@ module _ (n dof : ℕ) (some : 0 < dof) where
     abbrev place : ℕ → ℕ
     place c = n * n + n + b * dof + c
 
-    gradient_changed : on_part (n * n + n + b * dof) (gradient_added dof jac r) w ≡ (Well, y)
+    gradient_changed : on_part (n * n + n + b * dof) (gradient_added dof jac r) w ≡ (Ok tt, y)
         → Changed n (λ i j x. x) (λ i x. add_if (eqb b (i / dof)) (dot_with jac (i % dof) r) x) w y
     unfolding gradient_added if_then
     gradient_changed e =
@@ -162,7 +158,7 @@ module _ (n dof : ℕ) (some : 0 < dof) where
 
   -- ---- all that a free end adds
   end_changed : (b : ℕ) (jac : List (List Float)) (r w y : List Float) → b * dof + dof ≤ n → need n ≤ length w
-      → end_added lower_triangle n dof b jac r w ≡ (Well, y)
+      → end_added lower_triangle n dof b jac r w ≡ (Ok tt, y)
       → Changed n (λ i j x. add_if (eqb b (i / dof) && eqb b (j / dof)) (dot_of jac (i % dof) jac (j % dof)) x)
       (λ i x. add_if (eqb b (i / dof)) (dot_with jac (i % dof) r) x) w y
   unfolding end_added
@@ -253,7 +249,7 @@ module _ (n dof : ℕ) (some : 0 < dof) (ja jb : List (List Float)) (r w y : Lis
   slope i x = merged_slope x (λ p. dot_with (if_then p ja jb) (i % dof) r) (of_a i) (of_b i) (not_both (i / dof))
 
   module _ (z : List Float) (p : Changed n two_blocks two_slopes w z) (wide : n * n ≤ length z) where
-    rising : ba < bb → block_added lower_triangle n dof bb ba jb ja z ≡ (Well, y) → Both
+    rising : ba < bb → block_added lower_triangle n dof bb ba jb ja z ≡ (Ok tt, y) → Both
     unfolding if_then
     rising k e =
         changed_as n
@@ -261,7 +257,7 @@ module _ (n dof : ℕ) (some : 0 < dof) (ja jb : List (List Float)) (r w y : Lis
         (λ u v. let h = in_order j i o in omega (arith, eqb-true ba (i / dof) u, eqb-true bb (j / dof) v)))
         slope (changed_then n p (block_changed n dof some bb ba jb ja z y fit-b fit-a wide e))
 
-    falling : bb ≤ ba → block_added lower_triangle n dof ba bb ja jb z ≡ (Well, y) → Both
+    falling : bb ≤ ba → block_added lower_triangle n dof ba bb ja jb z ≡ (Ok tt, y) → Both
     unfolding if_then
     falling k e =
         changed_as n
@@ -269,17 +265,17 @@ module _ (n dof : ℕ) (some : 0 < dof) (ja jb : List (List Float)) (r w y : Lis
         (λ u v. let h = in_order j i o in differ (omega (arith, eqb-true bb (i / dof) u, eqb-true ba (j / dof) v))))
         slope (changed_then n p (block_changed n dof some ba bb ja jb z y fit-a fit-b wide e))
 
-    cross_changed : cross_added lower_triangle n dof ba bb ja jb z ≡ (Well, y) → Both
+    cross_changed : cross_added lower_triangle n dof ba bb ja jb z ≡ (Ok tt, y) → Both
     unfolding cross_added if_then
     cross_changed e = go (ltb ba bb) (ltb-true _ _) (ltb-false _ _) e
       where
         go : (t : Bool) → (t ≡ true → ba < bb) → (t ≡ false → bb ≤ ba)
-            → if_then t (block_added lower_triangle n dof bb ba jb ja z) (block_added lower_triangle n dof ba bb ja jb z) ≡ (Well, y)
+            → if_then t (block_added lower_triangle n dof bb ba jb ja z) (block_added lower_triangle n dof ba bb ja jb z) ≡ (Ok tt, y)
             → Both
         go true f _ e = rising (f refl) e
         go false _ f e = falling (f refl) e
 
-  ends_changed : ends_added lower_triangle n dof ba bb ja jb r w ≡ (Well, y) → Both
+  ends_changed : ends_added lower_triangle n dof ba bb ja jb r w ≡ (Ok tt, y) → Both
   unfolding ends_added if_then
   ends_changed e =
       let s = then_both _ _ y e in
@@ -289,17 +285,17 @@ module _ (n dof : ℕ) (some : 0 < dof) (ja jb : List (List Float)) (r w y : Lis
       cross_changed s.0 (changed_then n p q) (rw (q.as_long, p.as_long) (omega arith)) s.2
 
 -- ---- an edge that went well has its residual and its Jacobians
-six_had : (r : Residual) (w y : List Float) (f : List Float → Went × List Float) → with_six r (λ d. f (six_of d)) (λ why. (Bad why, w)) ≡ (Well, y)
-    → f (with_six r six_of (λ why. [])) ≡ (Well, y)
+six_had : (r : Result Twist Failure) (w y : List Float) (f : List Float → Went × List Float) → with_six r (λ d. f (six_of d)) (λ why. (Err why, w)) ≡ (Ok tt, y)
+    → f (with_six r six_of (λ why. [])) ≡ (Ok tt, y)
 unfolding with_six
-six_had (Six d) w y f e = e
-six_had (Failed why) w y f e = never_bad why w y e
+six_had (Ok d) w y f e = e
+six_had (Err why) w y f e = never_bad why w y e
 
-jacobian_had : (x : Went × List (List Float)) (w y : List Float) (f : List (List Float) → Went × List Float) → with_jacobian x w f ≡ (Well, y)
-    → f x.1 ≡ (Well, y)
+jacobian_had : (x : Went × List (List Float)) (w y : List Float) (f : List (List Float) → Went × List Float) → with_jacobian x w f ≡ (Ok tt, y)
+    → f x.1 ≡ (Ok tt, y)
 unfolding with_jacobian
-jacobian_had (Well, j) w y f e = e
-jacobian_had (Bad why, j) w y f e = never_bad why w y e
+jacobian_had (Ok _, j) w y f e = e
+jacobian_had (Err why, j) w y f e = never_bad why w y e
 
 module _ (m : Manifold) (a b : Pose) (e : Edge) where
   abbrev residuals : List Float
@@ -308,15 +304,15 @@ module _ (m : Manifold) (a b : Pose) (e : Edge) where
   abbrev slopes_of : EdgeEndpoint → List (List Float)
   slopes_of end = (jacobian_of m a b e end).1
 
-  one_had : (n : ℕ) (w y : List Float) (end : EdgeEndpoint) (i : ℕ) → one_of lower_triangle m n a b e end i w ≡ (Well, y)
-      → end_added lower_triangle n (dof_of m) i (slopes_of end) residuals w ≡ (Well, y)
+  one_had : (n : ℕ) (w y : List Float) (end : EdgeEndpoint) (i : ℕ) → one_of lower_triangle m n a b e end i w ≡ (Ok tt, y)
+      → end_added lower_triangle n (dof_of m) i (slopes_of end) residuals w ≡ (Ok tt, y)
   unfolding one_of
   one_had n w y end i h =
       jacobian_had (jacobian_of m a b e end) w y (λ j. end_added lower_triangle n (dof_of m) i j residuals w)
       (six_had (residual_of a b e) w y (λ s. with_jacobian (jacobian_of m a b e end) w (λ j. end_added lower_triangle n (dof_of m) i j s w)) h)
 
-  both_had : (n : ℕ) (w y : List Float) (i k : ℕ) → both_of lower_triangle m n a b e i k w ≡ (Well, y)
-      → ends_added lower_triangle n (dof_of m) i k (slopes_of A) (slopes_of B) residuals w ≡ (Well, y)
+  both_had : (n : ℕ) (w y : List Float) (i k : ℕ) → both_of lower_triangle m n a b e i k w ≡ (Ok tt, y)
+      → ends_added lower_triangle n (dof_of m) i k (slopes_of A) (slopes_of B) residuals w ≡ (Ok tt, y)
   unfolding both_of
   both_had n w y i k h =
       jacobian_had (jacobian_of m a b e B) w y (λ jb. ends_added lower_triangle n (dof_of m) i k (slopes_of A) jb residuals w)
@@ -333,31 +329,31 @@ module _ (m : Manifold) (l : Links Edge) (pose : ℕ → Pose) (a b : Pose) (e :
   abbrev jb : List (List Float)
   jb = slopes_of m a b e B
 
-  abbrev pub edge_matrix : Slot → Slot → ℕ → ℕ → Float → Float
+  abbrev pub edge_matrix : Option ℕ → Option ℕ → ℕ → ℕ → Float → Float
   edge_matrix sa sb = matrix_by (dof_of m) ja jb (residuals m a b e) (λ i. stands_in m l pose i sa) (λ i. stands_in m l pose i sb)
 
-  abbrev pub edge_gradient : Slot → Slot → ℕ → Float → Float
+  abbrev pub edge_gradient : Option ℕ → Option ℕ → ℕ → Float → Float
   edge_gradient sa sb = gradient_by (dof_of m) ja jb (residuals m a b e) (λ i. stands_in m l pose i sa) (λ i. stands_in m l pose i sb)
 
   never : false ≡ true → ⊥
   never q = true≢false (sym q)
 
-  pub edge_changed : (n : ℕ) (sa sb : Slot) (w y : List Float) → need n ≤ length w
-      → ((i : ℕ) → sa ≡ Block i → i * dof_of m + dof_of m ≤ n) → ((i : ℕ) → sb ≡ Block i → i * dof_of m + dof_of m ≤ n)
-      → ((i : ℕ) → sa ≡ Block i → sb ≡ Block i → ⊥) → edge_of lower_triangle m n a b e sa sb w ≡ (Well, y)
+  pub edge_changed : (n : ℕ) (sa sb : Option ℕ) (w y : List Float) → need n ≤ length w
+      → ((i : ℕ) → sa ≡ Some i → i * dof_of m + dof_of m ≤ n) → ((i : ℕ) → sb ≡ Some i → i * dof_of m + dof_of m ≤ n)
+      → ((i : ℕ) → sa ≡ Some i → sb ≡ Some i → ⊥) → edge_of lower_triangle m n a b e sa sb w ≡ (Ok tt, y)
       → Changed n (edge_matrix sa sb) (edge_gradient sa sb) w y
   unfolding edge_of if_then
-  edge_changed n Fixed Fixed w y room fa fb o h =
-      subst (λ (x : Went × List Float). Changed n (edge_matrix Fixed Fixed) (edge_gradient Fixed Fixed) w x.1) h
+  edge_changed n None None w y room fa fb o h =
+      subst (λ (x : Went × List Float). Changed n (edge_matrix None None) (edge_gradient None None) w x.1) h
       (record { as_long = refl; matrix = λ i j _ _. refl; gradient = λ i _. refl })
-  edge_changed n (Block i) Fixed w y room fa fb o h =
+  edge_changed n (Some i) None w y room fa fb o h =
       changed_as n
       (λ p q _ x. merged_up x (λ s t. dot_of (if_then s ja jb) (p % dof_of m) (if_then t ja jb) (q % dof_of m))
       (eqb i (p / dof_of m)) false (eqb i (q / dof_of m)) false (λ _. never) (λ _. never) (λ _. never))
       (λ p x. merged_slope x (λ s. dot_with (if_then s ja jb) (p % dof_of m) (residuals m a b e)) (eqb i (p / dof_of m)) false (λ _. never))
       (end_changed n (dof_of m) (dof_some m) i ja (residuals m a b e) w y (fa i refl) room (one_had m a b e n w y A i h))
-  edge_changed n Fixed (Block k) w y room fa fb o h =
+  edge_changed n None (Some k) w y room fa fb o h =
       end_changed n (dof_of m) (dof_some m) k jb (residuals m a b e) w y (fb k refl) room (one_had m a b e n w y B k h)
-  edge_changed n (Block i) (Block k) w y room fa fb o h =
-      ends_changed n (dof_of m) (dof_some m) ja jb (residuals m a b e) w y i k (λ q. o i refl (ap Block (sym q))) (fa i refl) (fb k refl) room
+  edge_changed n (Some i) (Some k) w y room fa fb o h =
+      ends_changed n (dof_of m) (dof_some m) ja jb (residuals m a b e) w y i k (λ q. o i refl (ap Some (sym q))) (fa i refl) (fb k refl) room
       (both_had m a b e n w y i k h)

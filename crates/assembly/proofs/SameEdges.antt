@@ -1,4 +1,5 @@
 -- What an assembly depends on: of each edge what it measured, the poses of its ends and their slots, and nothing else. Assumes nothing.
+use Rattle.std.specs.Prelude.{Option, is_some}
 use mathlib.Core.Path.{◌≡◌, ap, ◌∙◌}
 use mathlib.Core.Bool.{◌||◌}
 use mathlib.Core.List.{List}
@@ -7,10 +8,9 @@ use lib.Ieee.{Float}
 use Rattle.numbers.specs.Walks.{each, only}
 use Rattle.numbers.proofs.Walking.{each_ext}
 use Rattle.rotations.specs.declared.Pose.{Pose}
-use Rattle.graph.specs.Graph.{Links, is_block}
+use Rattle.graph.specs.Graph.{Links}
 use Rattle.graph.specs.declared.Edge.{Edge}
 use Rattle.graph.specs.declared.Manifold.{Manifold}
-use Rattle.graph.specs.declared.Slot.{Slot}
 use Rattle.additions.specs.Additions.{lower_triangle}
 use Rattle.assembly.specs.Assembly.{edge_of, add_at, edge_step, cleared, assembled_ends, assembled_of}
 
@@ -23,8 +23,8 @@ pub record Same (l l' : Links Edge) (pose pose' : ℕ → Pose) : Type 0 where
   pub slot_a : (k : ℕ) → k < l.edges → l.slot (l.a k) ≡ l'.slot (l'.a k)
   pub slot_b : (k : ℕ) → k < l.edges → l.slot (l.b k) ≡ l'.slot (l'.b k)
 
-same_step : (m : Manifold) (n : ℕ) {a a' b b' : Pose} {e e' : Edge} {s s' t t' : Slot} (w : List Float) → a ≡ a' → b ≡ b' → e ≡ e' → s ≡ s' → t ≡ t'
-    → only (is_block s || is_block t) (edge_of lower_triangle m n a b e s t) w ≡ only (is_block s' || is_block t') (edge_of lower_triangle m n a' b' e' s' t') w
+same_step : (m : Manifold) (n : ℕ) {a a' b b' : Pose} {e e' : Edge} {s s' t t' : Option ℕ} (w : List Float) → a ≡ a' → b ≡ b' → e ≡ e' → s ≡ s' → t ≡ t'
+    → only (is_some s || is_some t) (edge_of lower_triangle m n a b e s t) w ≡ only (is_some s' || is_some t') (edge_of lower_triangle m n a' b' e' s' t') w
 same_step m n w p q r u v = rw (p, q, r, u, v)
 
 module _ (m : Manifold) (n : ℕ) (l l' : Links Edge) (pose pose' : ℕ → Pose) (s : Same l l' pose pose') (w : List Float) where

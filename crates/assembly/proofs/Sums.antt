@@ -1,5 +1,6 @@
 -- An assembly that went well left the sums of JᵀJ and of Jᵀr over the active edges, entry by entry and in edge order; and they are the same sums where each
 -- six products are added from −0, as the Rust adds them. Assumes nothing.
+use Rattle.std.specs.Prelude.{Err, Ok}
 use mathlib.Core.Path.{◌≡◌, refl, sym, ap, ap₂, subst, ◌∙◌}
 use mathlib.Core.Bool.{◌&&◌}
 use mathlib.Core.List.{List}
@@ -9,9 +10,7 @@ use lib.Arith.{digits_lt}
 use lib.ListN.{length, get_or}
 use lib.Ieee.{Float, nan, binary32, neg}
 use Rattle.numbers.specs.Notation.{◌⊞◌, ◌⊠◌, num}
-use Rattle.numbers.specs.Walks.{Ended, done, stopped, sum_of, step_end, step_on, each}
-use Rattle.numbers.specs.declared.Went.{Went}
-use Rattle.numbers.specs.declared.Went.TheVariants.{Well, Bad}
+use Rattle.numbers.specs.Walks.{Ended, done, stopped, sum_of, step_end, step_on, each, Went}
 use Rattle.rotations.specs.declared.Pose.{Pose}
 use Rattle.graph.specs.Graph.{Links}
 use Rattle.graph.specs.declared.Edge.{Edge}
@@ -37,14 +36,14 @@ sum_is f (suc n) = ap (λ x. x ⊞ f n) (sum_is f n)
 
 -- what holds before step k of a row, and after it of k + 1 if it went well, holds at the end of a row that went well
 each_counted : {S : Type 0} (I : ℕ → S → Type 0) (f : ℕ → S → Went × S) (n : ℕ) (s t : S)
-    → ((k : ℕ) → k < n → (u v : S) → I k u → f k u ≡ (Well, v) → I (suc k) v) → I 0 s → each f n s ≡ done t → I n t
+    → ((k : ℕ) → k < n → (u v : S) → I k u → f k u ≡ (Ok tt, v) → I (suc k) v) → I 0 s → each f n s ≡ done t → I n t
 unfolding each
 each_counted I f zero s t h i e = let q : s ≡ t = cc in subst (I 0) q i
 each_counted {S} I f (suc n) s t h i e = go (each f n s) (λ u. each_counted I f n s u (λ k l. h k (omega arith)) i) refl e
   where
     last : (x : Went × S) (u : S) → f n u ≡ x → I n u → step_end n x ≡ done t → I (suc n) t
-    last (Well, v) u q i r = let p : v ≡ t = cc in subst (I (suc n)) p (h n (omega arith) u v i q)
-    last (Bad why, v) u q i r = absurd (let z : ◌≡◌ {A = ℕ} 0 1 = cc in omega arith)
+    last (Ok _, v) u q i r = let p : v ≡ t = cc in subst (I (suc n)) p (h n (omega arith) u v i q)
+    last (Err why, v) u q i r = absurd (let z : ◌≡◌ {A = ℕ} 0 1 = cc in omega arith)
 
     go : (x : Ended S) → ((u : S) → each f n s ≡ done u → I n u) → each f n s ≡ x → step_on x n f ≡ done t → I (suc n) t
     go (done u) g q r = last (f n u) u refl (g u q) r
@@ -82,7 +81,7 @@ module _ (m : Manifold) (l : Links Edge) (pose : ℕ → Pose) where
         gradient = λ i h. cleared_zero n w (n * n + n + i) (omega arith);
       }
 
-  step : (n : ℕ) → Fits m n l → Apart l → (k : ℕ) → k < l.edges → (w y : List Float) → Upto n k w → edge_step lower_triangle m n l pose k w ≡ (Well, y)
+  step : (n : ℕ) → Fits m n l → Apart l → (k : ℕ) → k < l.edges → (w y : List Float) → Upto n k w → edge_step lower_triangle m n l pose k w ≡ (Ok tt, y)
       → Upto n (suc k) y
   unfolding add_at sum_over hessian_part gradient_part slope_at
   step n f o k h w y u e =

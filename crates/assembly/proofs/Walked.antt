@@ -1,5 +1,7 @@
 -- What holds through every addition to a place of the system holds of the work that an assembly leaves; so does what relates the work of two assemblies
 -- that keep different entries. Assumes nothing.
+use Rattle.numbers.specs.declared.Failure.{Failure}
+use Rattle.std.specs.Prelude.{Err, None, Ok, Option, Result, Some}
 use mathlib.Core.Path.{◌≡◌, refl, sym, ap}
 use mathlib.Core.Bool.{Bool, true, false}
 use mathlib.Core.List.{List}
@@ -10,20 +12,14 @@ use lib.Dec.{ltb, leb}
 use lib.Ieee.{Float}
 use borrow.Author.Tests.{leb-true, ltb-true, ltb-false}
 use Rattle.numbers.specs.Notation.{if_then}
-use Rattle.numbers.specs.Walks.{only}
-use Rattle.numbers.specs.declared.Went.{Went}
-use Rattle.numbers.specs.declared.Went.TheVariants.{Well, Bad}
-use Rattle.exp_log.specs.declared.Twist.{Twist}
+use Rattle.numbers.specs.Walks.{only, Went}
+use Rattle.exp_log.specs.Formats.{Twist}
 use Rattle.rotations.specs.declared.Pose.{Pose}
 use Rattle.graph.specs.Graph.{Links, is_active}
 use Rattle.graph.specs.Lent.{dof_of, lent_links}
 use Rattle.graph.specs.declared.Edge.{Edge}
 use Rattle.graph.specs.declared.Manifold.{Manifold}
-use Rattle.graph.specs.declared.Slot.{Slot}
-use Rattle.graph.specs.declared.Slot.TheVariants.{Block, Fixed}
 use Rattle.residual.specs.Residuals.{six_of}
-use Rattle.residual.specs.declared.Residual.{Residual}
-use Rattle.residual.specs.declared.Residual.TheVariants.{Six, Failed}
 use Rattle.jacobians.specs.Jacobians.{with_six}
 use Rattle.additions.specs.Additions.{dot_with, dot_of, add_to, gradient_added, on_part, lower_triangle, entry_added, row_added, block_added}
 use Rattle.assembly.specs.Assembly.{with_jacobian, cleared, one_of, both_of, edge_of, add_at, ends_by, assembled_ends}
@@ -37,8 +33,8 @@ use Rattle.assembly.proofs.Edges.{slot_fits}
 
 -- ---- the blocks that the edges name lie within n unknowns
 pub record Fits (m : Manifold) (n : ℕ) (l : Links Edge) : Type 0 where
-  pub a_fits : (k : ℕ) → k < l.edges → (b : ℕ) → l.slot (l.a k) ≡ Block b → b * dof_of m + dof_of m ≤ n
-  pub b_fits : (k : ℕ) → k < l.edges → (b : ℕ) → l.slot (l.b k) ≡ Block b → b * dof_of m + dof_of m ≤ n
+  pub a_fits : (k : ℕ) → k < l.edges → (b : ℕ) → l.slot (l.a k) ≡ Some b → b * dof_of m + dof_of m ≤ n
+  pub b_fits : (k : ℕ) → k < l.edges → (b : ℕ) → l.slot (l.b k) ≡ Some b → b * dof_of m + dof_of m ≤ n
 
 -- with the slots of an array of blocks they do
 pub lent_fits : (m : Manifold) (ends : List ℕ) (edges : List Float) (blocks : List ℕ) (free : ℕ) → Fits m (dof_of m * free) (lent_links ends edges blocks free)
@@ -54,18 +50,18 @@ module _ (keeps keeps' : ℕ → ℕ → Bool) (n : ℕ) (m : Manifold) (Level :
     → Together P Q (block_added keeps n (dof_of m) b b j j w) (block_added keeps' n (dof_of m) b b j j v))
     (below : (rb cb : ℕ) (jr jc : List (List Float)) (w v : List Float) → cb ≤ rb → (rb ≡ cb → Level) → rb * dof_of m + dof_of m ≤ n → P w v
     → Together P Q (block_added keeps n (dof_of m) rb cb jr jc w) (block_added keeps' n (dof_of m) rb cb jr jc v)) where
-  six_together : (r : Residual) (w v : List Float) (f g : Twist → Went × List Float) → P w v → ((d : Twist) → Together P Q (f d) (g d))
-      → Together P Q (with_six r f (λ why. (Bad why, w))) (with_six r g (λ why. (Bad why, v)))
+  six_together : (r : Result Twist Failure) (w v : List Float) (f g : Twist → Went × List Float) → P w v → ((d : Twist) → Together P Q (f d) (g d))
+      → Together P Q (with_six r f (λ why. (Err why, w))) (with_six r g (λ why. (Err why, v)))
   unfolding with_six
-  six_together (Six d) w v f g p h = h d
-  six_together (Failed why) w v f g p h = (refl, weaker w v p)
+  six_together (Ok d) w v f g p h = h d
+  six_together (Err why) w v f g p h = (refl, weaker w v p)
 
   jacobian_together : (x : Went × List (List Float)) (w v : List Float) (f g : List (List Float) → Went × List Float) → P w v
       → ((j : List (List Float)) → Together P Q (f j) (g j))
       → Together P Q (with_jacobian x w f) (with_jacobian x v g)
   unfolding with_jacobian
-  jacobian_together (Well, j) w v f g p h = h j
-  jacobian_together (Bad why, j) w v f g p h = (refl, weaker w v p)
+  jacobian_together (Ok _, j) w v f g p h = h j
+  jacobian_together (Err why, j) w v f g p h = (refl, weaker w v p)
 
   gradient_together : (b : ℕ) (j : List (List Float)) (r w v : List Float) → b * dof_of m + dof_of m ≤ n → P w v
       → Together P Q (on_part (n * n + n + b * dof_of m) (gradient_added (dof_of m) j r) w) (on_part (n * n + n + b * dof_of m) (gradient_added (dof_of m) j r) v)
@@ -110,19 +106,19 @@ module _ (keeps keeps' : ℕ → ℕ → Bool) (n : ℕ) (m : Manifold) (Level :
       six_together _ w v _ _ p
       (λ r. jacobian_together _ w v _ _ p (λ ja. jacobian_together _ w v _ _ p (λ jb. ends_together i k ja jb (six_of r) w v o hi hk p)))
 
-  edge_together : (a b : Pose) (e : Edge) (sa sb : Slot) (w v : List Float)
-      → ((i : ℕ) → sa ≡ Block i → i * dof_of m + dof_of m ≤ n) → ((i : ℕ) → sb ≡ Block i → i * dof_of m + dof_of m ≤ n)
-      → ((i : ℕ) → sa ≡ Block i → sb ≡ Block i → Level)
+  edge_together : (a b : Pose) (e : Edge) (sa sb : Option ℕ) (w v : List Float)
+      → ((i : ℕ) → sa ≡ Some i → i * dof_of m + dof_of m ≤ n) → ((i : ℕ) → sb ≡ Some i → i * dof_of m + dof_of m ≤ n)
+      → ((i : ℕ) → sa ≡ Some i → sb ≡ Some i → Level)
       → P w v → Together P Q (edge_of keeps m n a b e sa sb w) (edge_of keeps' m n a b e sa sb v)
   unfolding edge_of
-  edge_together a b e Fixed Fixed w v ha hb o p = p
-  edge_together a b e (Block i) Fixed w v ha hb o p = one_together a b e A i w v (ha i refl) p
-  edge_together a b e Fixed (Block k) w v ha hb o p = one_together a b e B k w v (hb k refl) p
-  edge_together a b e (Block i) (Block k) w v ha hb o p = both_together a b e i k w v (λ q. o i refl (ap Block (sym q))) (ha i refl) (hb k refl) p
+  edge_together a b e None None w v ha hb o p = p
+  edge_together a b e (Some i) None w v ha hb o p = one_together a b e A i w v (ha i refl) p
+  edge_together a b e None (Some k) w v ha hb o p = one_together a b e B k w v (hb k refl) p
+  edge_together a b e (Some i) (Some k) w v ha hb o p = both_together a b e i k w v (λ q. o i refl (ap Some (sym q))) (ha i refl) (hb k refl) p
 
   -- and so through all edges
   pub edges_abreast : (l : Links Edge) (pose : ℕ → Pose) (w : List Float) → Fits m n l
-      → ((k : ℕ) → k < l.edges → (b : ℕ) → l.slot (l.a k) ≡ Block b → l.slot (l.b k) ≡ Block b → Level)
+      → ((k : ℕ) → k < l.edges → (b : ℕ) → l.slot (l.a k) ≡ Some b → l.slot (l.b k) ≡ Some b → Level)
       → P (cleared n w) (cleared n w) → Abreast P Q (ends_by keeps m n l pose w) (ends_by keeps' m n l pose w)
   unfolding add_at
   edges_abreast l pose w f o p =

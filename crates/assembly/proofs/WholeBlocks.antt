@@ -1,5 +1,6 @@
 -- The Rust fills whole blocks on the diagonal of the Hessian; here only its lower triangle is kept. Both assemblies are done with the same system, bit for bit,
 -- or both stop at the same edge: a product of two columns of one Jacobian is the same in either order, so a block that was symmetric stays so. Assumes nothing.
+use Rattle.std.specs.Prelude.{Err, None, Ok, Some}
 use mathlib.Core.Path.{◌≡◌, refl, sym, ap, ap₂, subst, ◌∙◌}
 use mathlib.Core.Bool.{Bool, true, false}
 use mathlib.Core.List.{List}
@@ -15,17 +16,14 @@ use lib.Ieee.{Float, nan}
 use lib.Ieee.Scale.{finite}
 use borrow.Author.Tests.{le-leb, leb-true, leb-false, ltb-true, ltb-false, eqb-true, eqb-false}
 use Rattle.numbers.specs.Notation.{◌⊞◌, num, if_then}
-use Rattle.numbers.specs.Walks.{Ended, done, stopped, every, count, only, must_be_finite}
+use Rattle.numbers.specs.Walks.{Ended, done, stopped, every, count, only, must_be_finite, Went}
 use Rattle.numbers.specs.declared.Failure.TheVariants.{Numerical}
-use Rattle.numbers.specs.declared.Went.{Went}
-use Rattle.numbers.specs.declared.Went.TheVariants.{Well, Bad}
 use Rattle.numbers.proofs.Walking.{count_below, every_same}
 use Rattle.rotations.specs.declared.Pose.{Pose}
 use Rattle.graph.specs.Graph.{Graph, Links, is_free, slot_at, links_of}
 use Rattle.graph.specs.Lent.{dof_of}
 use Rattle.graph.specs.declared.Edge.{Edge}
 use Rattle.graph.specs.declared.Manifold.{Manifold}
-use Rattle.graph.specs.declared.Slot.TheVariants.{Block, Fixed}
 use Rattle.profile.specs.Layout.{need, hessian_of}
 use Rattle.solve.specs.Work.{gradient_of}
 use Rattle.additions.specs.Additions.{dot_of, add_to, lower_triangle, whole_blocks, entry_added, row_added, block_added}
@@ -53,7 +51,7 @@ Alike n (stopped k why w) (done v) = ⊥
 
 -- no edge has both its ends in one block
 abbrev pub Apart : {M : Type 0} → Links M → Type 0
-Apart l = (k : ℕ) → k < l.edges → (b : ℕ) → l.slot (l.a k) ≡ Block b → l.slot (l.b k) ≡ Block b → ⊥
+Apart l = (k : ℕ) → k < l.edges → (b : ℕ) → l.slot (l.a k) ≡ Some b → l.slot (l.b k) ≡ Some b → ⊥
 
 -- ---- the two works: the same system, and in the Rust's every diagonal block is symmetric
 record Mirrored (n dof : ℕ) (w v : List Float) : Type 0 where
@@ -97,7 +95,7 @@ module _ (n dof : ℕ) where
   unfolding add_to must_be_finite if_then
   added w v q x l off e s = rw (← e) (go (get_or w q nan ⊞ x) (finite (get_or w q nan ⊞ x)))
     where
-      go : (y : Float) (t : Bool) → Together (Mirrored n dof) Any (if_then t Well (Bad Numerical), set w q y) (if_then t Well (Bad Numerical), set v q y)
+      go : (y : Float) (t : Bool) → Together (Mirrored n dof) Any (if_then t (Ok tt) (Err Numerical), set w q y) (if_then t (Ok tt) (Err Numerical), set v q y)
       go y true = stored w v q y l off s
       go y false = (refl, tt)
 
@@ -282,14 +280,14 @@ pub graph_apart : {P M : Type 0} (g : Graph P M) → ((k : ℕ) → k < g.edges 
 unfolding links_of slot_at if_then
 graph_apart g two k l b ea eb = go (ltb (g.a k) (g.b k)) (ltb (g.b k) (g.a k)) (ltb-true _ _) (ltb-false _ _) (ltb-true _ _) (ltb-false _ _)
   where
-    free : (x : ℕ) → slot_at g x ≡ Block b → (is_free g x ≡ true) × (count (is_free g) x ≡ b)
+    free : (x : ℕ) → slot_at g x ≡ Some b → (is_free g x ≡ true) × (count (is_free g) x ≡ b)
     free x e = at (is_free g x) refl e
       where
-        at : (t : Bool) → is_free g x ≡ t → if_then t (Block (count (is_free g) x)) Fixed ≡ Block b → (is_free g x ≡ true) × (count (is_free g) x ≡ b)
+        at : (t : Bool) → is_free g x ≡ t → if_then t (Some (count (is_free g) x)) None ≡ Some b → (is_free g x ≡ true) × (count (is_free g) x ≡ b)
         at true f q = (f, cc)
         at false f q = absurd (let z : ◌≡◌ {A = ℕ} 0 1 = cc in omega arith)
 
-    never : (x y : ℕ) → x < y → slot_at g x ≡ Block b → slot_at g y ≡ Block b → ⊥
+    never : (x y : ℕ) → x < y → slot_at g x ≡ Some b → slot_at g y ≡ Some b → ⊥
     never x y h ex ey =
         let lower : count (is_free g) x < count (is_free g) y = count_below (is_free g) x y h (free x ex).0 in
         omega (arith, (free x ex).1, (free y ey).1)

@@ -1,12 +1,10 @@
 -- What an assembly knows of each pose, worked out once and kept in cells, as `jacobians` reads them. `free_known` of proofs/Knowing says that the cells of a
 -- free pose hold its probes. Definitions only.
-use Rattle.std.specs.Prelude.{ℕ, ◌+◌, ◌*◌, ◌<◌, ◌≤◌, ◌≡◌, ◌⊎◌, Bool, true, false, List, length, Float}
-use Rattle.pose_conversion.specs.declared.Converted.{Converted}
-use Rattle.graph.specs.Graph.{is_block}
+use Rattle.numbers.specs.declared.Failure.{Failure}
+use Rattle.rotations.specs.Formats.{Transform}
+use Rattle.std.specs.Prelude.{ℕ, ◌+◌, ◌*◌, ◌<◌, ◌≤◌, ◌≡◌, ◌⊎◌, Bool, true, false, List, length, Float, None, Option, Result, Some, is_some}
 use Rattle.graph.specs.Lent.{dof_of, pose_at, slot_in}
 use Rattle.graph.specs.declared.Manifold.{Manifold}
-use Rattle.graph.specs.declared.Slot.{Slot}
-use Rattle.graph.specs.declared.Slot.TheVariants.{Block, Fixed}
 use Rattle.costs.specs.Stowed.{stowed_in, known_poses, Based}
 use Rattle.probes.specs.Probes.{probes_of}
 use Rattle.jacobians.specs.FromProbes.{SharesTurn}
@@ -16,27 +14,27 @@ use Rattle.assembly.specs.declared.Shape.{Shape}
 -- ---- what the code makes of the cells l
 
 -- the probes of pose x along axis c
-pub record Axis (probe : ℕ → Bool → Converted) (x c : ℕ) (l l' : List Float) : Type 0 where
+pub record Axis (probe : ℕ → Bool → Result Transform Failure) (x c : ℕ) (l l' : List Float) : Type 0 where
   pub len : length l' ≡ length l
   pub there : (ahead : Bool) → stowed_in l' (spot x c ahead) ≡ probe c ahead
   pub rest : (k : ℕ) → (k ≡ spot x c true → ⊥) → (k ≡ spot x c false → ⊥) → stowed_in l' k ≡ stowed_in l k
 
 -- those along the first i axes
-pub record Probed (probe : ℕ → Bool → Converted) (x i : ℕ) (l l' : List Float) : Type 0 where
+pub record Probed (probe : ℕ → Bool → Result Transform Failure) (x i : ℕ) (l l' : List Float) : Type 0 where
   pub len : length l' ≡ length l
   pub there : (c : ℕ) → c < i → (ahead : Bool) → stowed_in l' (spot x c ahead) ≡ probe c ahead
   pub rest : (k : ℕ) → (k < 256 + x * 12) ⊎ (256 + (x * 12 + 12) ≤ k) → stowed_in l' k ≡ stowed_in l k
 
 -- all of them, if pose x is free; else nothing changes
-abbrev pub Posed : Slot → (ℕ → Bool → Converted) → ℕ → ℕ → List Float → List Float → Type 0
-Posed Fixed probe x dof l l' = l' ≡ l
-Posed (Block i) probe x dof l l' = Probed probe x dof l l'
+abbrev pub Posed : Option ℕ → (ℕ → Bool → Result Transform Failure) → ℕ → ℕ → List Float → List Float → Type 0
+Posed None probe x dof l l' = l' ≡ l
+Posed (Some i) probe x dof l l' = Probed probe x dof l l'
 
 -- ---- what the cells say: of all poses, and of the free ones among the first i
-pub record Ready (m : Manifold) (poses : List Float) (slot : ℕ → Slot) (l : List Float) (i : ℕ) : Type 0 where
+pub record Ready (m : Manifold) (poses : List Float) (slot : ℕ → Option ℕ) (l : List Float) (i : ℕ) : Type 0 where
   pub len : length l ≡ 26624
   pub bases : Based poses l (known_poses (length poses))
-  pub probes : (x : ℕ) → x < i → is_block (slot x) ≡ true → (c : ℕ) → c < dof_of m → (ahead : Bool)
+  pub probes : (x : ℕ) → x < i → is_some (slot x) ≡ true → (c : ℕ) → c < dof_of m → (ahead : Bool)
       → stowed_in l (spot x c ahead) ≡ probes_of m (pose_at poses x) c ahead
 
 -- pose x is free, with block i among n unknowns, and its probes are known

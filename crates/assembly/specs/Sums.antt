@@ -1,7 +1,7 @@
 -- The system of an assembly that went well, entry by entry: H = Σ JᵀJ and gradient = Σ Jᵀr over the active edges, in edge order, from +0. Document 01, "Graph,
 -- residual, assembly": "sum six products in residual order, then add to the entry, starting from +0". What the store-passing definition `assembled_ends` leaves
 -- is this (law `entries_are_sums`). Definitions only.
-use Rattle.std.specs.Prelude.{ℕ, zero, suc, ◌/◌, ◌%◌, ◌<◌, ◌≤◌, ◌≡◌, Bool, false, ◌&&◌, ◌||◌, List, [], eqb, get_or, Float}
+use Rattle.std.specs.Prelude.{ℕ, zero, suc, ◌/◌, ◌%◌, ◌<◌, ◌≤◌, ◌≡◌, Bool, false, ◌&&◌, ◌||◌, List, [], eqb, get_or, Float, None, Option, Some}
 use Rattle.std.specs.Float.{nan}
 use Rattle.numbers.specs.Notation.{◌⊞◌, ◌⊠◌, num, if_then}
 use Rattle.rotations.specs.declared.Pose.{Pose}
@@ -9,8 +9,6 @@ use Rattle.graph.specs.Graph.{Links}
 use Rattle.graph.specs.Lent.{dof_of}
 use Rattle.graph.specs.declared.Edge.{Edge}
 use Rattle.graph.specs.declared.Manifold.{Manifold}
-use Rattle.graph.specs.declared.Slot.{Slot}
-use Rattle.graph.specs.declared.Slot.TheVariants.{Block, Fixed}
 use Rattle.residual.specs.Residuals.{residual_of, six_of}
 use Rattle.residual.specs.declared.EdgeEndpoint.{EdgeEndpoint}
 use Rattle.residual.specs.declared.EdgeEndpoint.TheVariants.{A, B}
@@ -40,9 +38,9 @@ module _ (m : Manifold) (l : Links Edge) (pose : ℕ → Pose) where
 
   -- ---- unknown i is number i % DOF of block i / DOF
 
-  abbrev pub stands_in : ℕ → Slot → Bool
-  stands_in i (Block b) = eqb b (i / dof_of m)
-  stands_in i Fixed = false
+  abbrev pub stands_in : ℕ → Option ℕ → Bool
+  stands_in i (Some b) = eqb b (i / dof_of m)
+  stands_in i None = false
 
   -- one of the ends of edge k has the unknown i
   abbrev pub concerns : ℕ → ℕ → Bool

@@ -18,16 +18,15 @@ ghost use Rattle.costs.specs.Stowed.{known_poses, Based};
 ghost use Rattle.probes.specs.Probes.{probes_of};
 ghost use Rattle.probes.specs.Stances.{probing_of, probe_by};
 
-use graph::{Manifold, Slot};
-use numbers::{Failure, Went};
+use graph::Manifold;
+use numbers::Failure;
 use probes::{Probing, Stance};
 use residual::{EdgeEndpoint, Linked};
 
-// Assembled; or the first bad edge among all edges, and why; or the work is too short.
+// Why a system can't be had: the first bad edge among all edges, and what is wrong with it; or the work is too short.
 #[derive(Clone, Copy)]
-pub enum Assembled {
-    Done,
-    Bad { edge: usize, why: Failure },
+pub enum AssemblyError {
+    BadEdge { edge: usize, why: Failure },
     Short,
 }
 
@@ -41,18 +40,16 @@ struct Shape {
 
 // ---- what is known of each pose: its transform, and of a free pose its probes
 
-fn fill_axis(known: &mut [f32], stance: Stance, x: usize, c: usize)
+fn fill_axis(known: &mut [f32], stance: Result<Stance, Failure>, x: usize, c: usize)
     requires { (x < 256) × (c < 6) × (length known.old ≡ 26624) }
     ensures { Axis (probe_by stance) x c known.old known.new }
 {
     let probes = probes::probes_at(stance, c);
-    let ahead = probes.ahead;
-    let behind = probes.behind;
-    costs::stow(known, 256 + (x * 12 + c), ahead);
-    costs::stow(known, 256 + (x * 12 + (6 + c)), behind);
+    costs::stow(known, 256 + (x * 12 + c), probes.ahead);
+    costs::stow(known, 256 + (x * 12 + (6 + c)), probes.behind);
 }
 
-fn fill_probes(known: &mut [f32], stance: Stance, dof: usize, x: usize)
+fn fill_probes(known: &mut [f32], stance: Result<Stance, Failure>, dof: usize, x: usize)
     requires { (x < 256) × (dof ≤ 6) × (length known.old ≡ 26624) }
     ensures { Probed (probe_by stance) x dof known.old known.new }
 {
@@ -62,17 +59,21 @@ fn fill_probes(known: &mut [f32], stance: Stance, dof: usize, x: usize)
 }
 
 // The probes of a pose that is not free are not asked for.
-fn fill_pose(known: &mut [f32], m: Manifold, probing: Probing, poses: &[f64], slot: Slot, x: usize)
+fn fill_pose(
+    known: &mut [f32],
+    m: Manifold,
+    probing: Probing,
+    poses: &[f64],
+    slot: Option<usize>,
+    x: usize,
+)
     requires { (x < 256) × (probing ≡ probing_of m) × (length known.old ≡ 26624) × Based poses.now known.old (known_poses (length poses.now)) }
     ensures { Posed slot (probes_of m (pose_at poses.now x)) x (dof_of m) known.old known.new }
 {
-    match slot {
-        Slot::Fixed => {}
-        Slot::Block(_) => {
-            let base = costs::base_at(known, costs::known_poses(poses), poses, x);
-            let stance = probes::stance_of(probing, graph::pose_at(poses, x), base);
-            fill_probes(known, stance, graph::dof(m), x);
-        }
+    if let Some(_) = slot {
+        let base = costs::base_at(known, costs::known_poses(poses), poses, x);
+        let stance = probes::stance_of(probing, graph::pose_at(poses, x), base);
+        fill_probes(known, stance, graph::dof(m), x);
     }
 }
 
@@ -91,7 +92,14 @@ fn fill(known: &mut [f32], m: Manifold, poses: &[f64], blocks: &[u32; 256], free
 // ---- edges
 
 // Edge k between poses a and b, with its residual.
-fn link(known: &[f32], poses: &[f64], edges: &[f32], a: usize, b: usize, k: usize) -> Linked
+fn link(
+    known: &[f32],
+    poses: &[f64],
+    edges: &[f32],
+    a: usize,
+    b: usize,
+    k: usize,
+) -> Result<Linked, Failure>
     requires { Based poses.now known.now (known_poses (length poses.now)) }
     ensures { result ≡ linked_of (checked_transform (pose_at poses.now a)) (checked_transform (pose_at poses.now b)) (edge_at edges.now k) }
 {
@@ -105,26 +113,18 @@ fn add_one(
     m: Manifold,
     known: &[f32],
     x: usize,
-    linked: Linked,
+    linked: Result<Linked, Failure>,
     end: EdgeEndpoint,
     block: usize,
-) -> Went
+) -> Result<(), Failure>
     requires { (block * dof_of m + dof_of m ≤ n) × (x < 256) × (length known.now ≡ 26624) × SharesTurn (stowed_probes known.now x)
         × (need n ≤ length w.old) }
     ensures { (result, w.new) ≡ one_in (dof_of m) n (stowed_probes known.now x) linked end block w.old }
 {
-    match linked {
-        Linked::Bad(why) => Went::Bad(why),
-        Linked::By { link, six } => {
-            let r = residual::six_of(six);
-            let mut code: u32 = 0;
-            let j = jacobians::edge_endpoint_jacobian(known, x, m, link, end, &mut code);
-            if let Went::Bad(why) = jacobians::went_of(code) {
-                return Went::Bad(why);
-            }
-            additions::add_end(w, n, graph::dof(m), block, &j, &r)
-        }
-    }
+    let edge = linked?;
+    let r = residual::six_of(edge.six);
+    let j = jacobians::edge_endpoint_jacobian(known, x, m, edge.link, end)?;
+    additions::add_end(w, n, graph::dof(m), block, &j, &r)
 }
 
 // An edge with two free ends.
@@ -135,44 +135,19 @@ fn add_both(
     known: &[f32],
     a: usize,
     b: usize,
-    linked: Linked,
+    linked: Result<Linked, Failure>,
     i: usize,
     k: usize,
-) -> Went
+) -> Result<(), Failure>
     requires { (i * dof_of m + dof_of m ≤ n) × (k * dof_of m + dof_of m ≤ n) × (a < 256) × (b < 256) × (length known.now ≡ 26624)
         × SharesTurn (stowed_probes known.now a) × SharesTurn (stowed_probes known.now b) × (need n ≤ length w.old) }
     ensures { (result, w.new) ≡ both_in (dof_of m) n (stowed_probes known.now a) (stowed_probes known.now b) linked i k w.old }
 {
-    match linked {
-        Linked::Bad(why) => Went::Bad(why),
-        Linked::By { link, six } => {
-            let r = residual::six_of(six);
-            let mut code: u32 = 0;
-            let ja = jacobians::edge_endpoint_jacobian(
-                known,
-                a,
-                m,
-                link,
-                EdgeEndpoint::A,
-                &mut code,
-            );
-            if let Went::Bad(why) = jacobians::went_of(code) {
-                return Went::Bad(why);
-            }
-            let jb = jacobians::edge_endpoint_jacobian(
-                known,
-                b,
-                m,
-                link,
-                EdgeEndpoint::B,
-                &mut code,
-            );
-            if let Went::Bad(why) = jacobians::went_of(code) {
-                return Went::Bad(why);
-            }
-            additions::add_ends(w, n, graph::dof(m), i, k, &ja, &jb, &r)
-        }
-    }
+    let edge = linked?;
+    let r = residual::six_of(edge.six);
+    let ja = jacobians::edge_endpoint_jacobian(known, a, m, edge.link, EdgeEndpoint::A)?;
+    let jb = jacobians::edge_endpoint_jacobian(known, b, m, edge.link, EdgeEndpoint::B)?;
+    additions::add_ends(w, n, graph::dof(m), i, k, &ja, &jb, &r)
 }
 
 // What edge k adds, by which of its ends are free; nothing if it is not active.
@@ -185,7 +160,7 @@ fn add_edge(
     edges: &[f32],
     blocks: &[u32; 256],
     k: usize,
-) -> Went
+) -> Result<(), Failure>
     requires { Shaped shape poses.now blocks.now known.now × (need shape.n ≤ length w.old) × (k < 2 ^ 62) }
     ensures { (result, w.new) ≡ edge_step lower_triangle shape.manifold shape.n
         (lent_links ends.now edges.now blocks.now shape.free) (pose_at poses.now) k w.old }
@@ -196,18 +171,18 @@ fn add_edge(
     let sa = graph::slot_at(blocks, shape.free, a);
     let sb = graph::slot_at(blocks, shape.free, b);
     match sa {
-        Slot::Fixed => match sb {
-            Slot::Fixed => Went::Well,
-            Slot::Block(j) => {
+        None => match sb {
+            None => Ok(()),
+            Some(j) => {
                 let linked = link(known, poses, edges, a, b, k);
                 add_one(w, shape.n, m, known, b, linked, EdgeEndpoint::B, j)
             }
         },
-        Slot::Block(i) => {
+        Some(i) => {
             let linked = link(known, poses, edges, a, b, k);
             match sb {
-                Slot::Fixed => add_one(w, shape.n, m, known, a, linked, EdgeEndpoint::A, i),
-                Slot::Block(j) => add_both(w, shape.n, m, known, a, b, linked, i, j),
+                None => add_one(w, shape.n, m, known, a, linked, EdgeEndpoint::A, i),
+                Some(j) => add_both(w, shape.n, m, known, a, b, linked, i, j),
             }
         }
     }
@@ -222,17 +197,17 @@ fn add_edges(
     ends: &[u32],
     edges: &[f32],
     blocks: &[u32; 256],
-) -> Assembled
+) -> Result<(), AssemblyError>
     requires { Shaped shape poses.now blocks.now known.now × (need shape.n ≤ length w.old) }
     ensures { (result, w.new) ≡ assembled_from (each (edge_step lower_triangle shape.manifold shape.n
         (lent_links ends.now edges.now blocks.now shape.free) (pose_at poses.now)) (length ends.now / 2) w.old) }
 {
     for k in 0..ends.len() / 2 {
-        if let Went::Bad(why) = add_edge(w, shape, known, poses, ends, edges, blocks, k) {
-            return Assembled::Bad { edge: k, why };
+        if let Err(why) = add_edge(w, shape, known, poses, ends, edges, blocks, k) {
+            return Err(AssemblyError::BadEdge { edge: k, why });
         }
     }
-    Assembled::Done
+    Ok(())
 }
 
 // The same, with what they ask of the poses worked out first, once.
@@ -243,7 +218,7 @@ fn add_all(
     ends: &[u32],
     edges: &[f32],
     blocks: &[u32; 256],
-) -> Assembled
+) -> Result<(), AssemblyError>
     requires { (shape.n ≡ dof_of shape.manifold * shape.free) × (shape.free ≤ 4294967295) × (length blocks.now ≡ 256)
         × (need shape.n ≤ length w.old) }
     ensures { (result, w.new) ≡ assembled_from (each (edge_step lower_triangle shape.manifold shape.n
@@ -272,14 +247,14 @@ pub fn build_normal_system_with_mapping(
     edges: &[f32],
     blocks: &[u32; 256],
     free: u32,
-) -> Assembled
+) -> Result<(), AssemblyError>
     ensures { (result, w.new) ≡ assembled_of m (dof_of m * free) (lent_links ends.now edges.now blocks.now free) (pose_at poses.now) w.old }
 {
     let n = graph::dof(m) * (free as usize);
     if !profile::has_room(w.len(), n) {
-        return Assembled::Short;
+        return Err(AssemblyError::Short);
     }
-    slices::clear32(&mut w[..n * (n + 3)]);
+    slices::clear(&mut w[..n * (n + 3)]);
     count_blocks(blocks);
     let shape = Shape {
         manifold: m,

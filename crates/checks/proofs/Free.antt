@@ -2,13 +2,13 @@
 use Prim.Native.Nat.{ℕ, ◌-◌, ◌<◌, ◌≤◌}
 use native.Mathlib.Nat.{add-sub_of_le}
 use native.Mathlib.Omega.{arith}
+use Rattle.std.specs.Prelude.{Ok}
 use mathlib.Core.Path.{◌≡◌, refl, sym, ap, ◌∙◌}
 use mathlib.Core.Bool.{Bool, true, false}
 use lib.Dec.{eqb, ltb, leb}
 use borrow.Author.Tests.{eqb-true, eqb-false, ltb-true, ltb-false, leb-false, ne_eqb}
 use Rattle.numbers.specs.Walks.{count}
 use Rattle.numbers.specs.Refusals.{lowest}
-use Rattle.numbers.specs.declared.Verdict.TheVariants.{Fine}
 use Rattle.numbers.proofs.Walking.{some_never, count_above, count_below}
 use Rattle.numbers.proofs.Tests.{neither_first, neither_second}
 use Rattle.numbers.proofs.Reading.{row_fault}
@@ -21,7 +21,7 @@ pub record Ends {P M : Type 0} (g : Graph P M) (k : ℕ) : Type 0 where
   pub a : g.a k < g.poses
   pub b : g.b k < g.poses
 
-pub ends_in : {P : Type 0} (g : Graph P Edge) → lowest (edge_faults g) g.edges ≡ Fine → (k : ℕ) → k < g.edges → Ends g k
+pub ends_in : {P : Type 0} (g : Graph P Edge) → lowest (edge_faults g) g.edges ≡ Ok tt → (k : ℕ) → k < g.edges → Ends g k
 ends_in g e k l =
     let h = row_fault (edge_faults g) g.edges 0 k e l in
     record {

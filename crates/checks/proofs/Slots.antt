@@ -1,4 +1,5 @@
 -- The slots in the array of blocks that the checks hand on are the graph's, also past the poses: so are the edges with them. Assumes nothing.
+use Rattle.std.specs.Prelude.{None, Option, Some}
 use mathlib.Core.Path.{◌≡◌, refl, sym, ap, ◌∙◌, fun_ext}
 use mathlib.Core.Bool.{Bool, true, false}
 use Prim.Native.Nat.{ℕ, ◌<◌, ◌≤◌}
@@ -15,8 +16,6 @@ use Rattle.graph.specs.Lent.{none, slot_in, lent_links}
 use Rattle.checks.specs.Input.{Input, graph_of}
 use Rattle.checks.specs.Table.{block_number, blocks_of}
 use Rattle.graph.specs.declared.Edge.{Edge}
-use Rattle.graph.specs.declared.Slot.{Slot}
-use Rattle.graph.specs.declared.Slot.TheVariants.{Block, Fixed}
 use Rattle.checks.proofs.Free.{free_past}
 use Rattle.checks.proofs.Passed.{PassedGraph, slot_same}
 
@@ -39,9 +38,9 @@ module _ (i : Input) (p : PassedGraph i) where
   unfolding slot_in slot_at
   past_slot x h =
       let m : free_count g ≤ 64 = p.most_free in
-      ap (λ (b : ℕ). if_then (ltb b (free_count g)) (Block b) Fixed) (past_block x h)
-      ∙ sym (left (Block none) (le-ltb none (free_count g) (omega arith)) refl)
-      ∙ left (Block (block_of g x)) (past_free x h) refl
+      ap (λ (b : ℕ). if_then (ltb b (free_count g)) (Some b) None) (past_block x h)
+      ∙ sym (left (Some none) (le-ltb none (free_count g) (omega arith)) refl)
+      ∙ left (Some (block_of g x)) (past_free x h) refl
 
   slots_same : (x : ℕ) → slot_in (blocks_of i) (free_count g) x ≡ slot_at g x
   slots_same x = go (ltb x g.poses) (ltb-true x g.poses) (ltb-false x g.poses)
@@ -52,4 +51,4 @@ module _ (i : Input) (p : PassedGraph i) where
 
   pub links_same : lent_links i.ends i.edges (blocks_of i) (free_count (graph_of i)) ≡ links_of (graph_of i)
   unfolding links_of
-  links_same = ap (λ (s : ℕ → Slot). record { edges = g.edges; a = g.a; b = g.b; measured = g.measured; slot = s }) (fun_ext slots_same)
+  links_same = ap (λ (s : ℕ → Option ℕ). record { edges = g.edges; a = g.a; b = g.b; measured = g.measured; slot = s }) (fun_ext slots_same)

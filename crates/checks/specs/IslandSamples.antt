@@ -1,13 +1,11 @@
 -- What the table says of small graphs, loose poses among them, computed by antt: Wish 6 of document 02. Assumes nothing.
-use Rattle.std.specs.Prelude.{◌≡◌, refl, List, [], ◌∷◌, ◌++◌, map, ℕ, replicate, Float}
+use Rattle.std.specs.Prelude.{◌≡◌, refl, List, [], ◌∷◌, ◌++◌, map, ℕ, replicate, Float, Err, Ok}
 use Rattle.std.specs.Float.{binary32}
 use Rattle.std.specs.Float.Ieee.{of_bits, add, sub, mul, eq, lt}
 use Rattle.numbers.specs.Notation.{num, ratio, if_then}
 use Rattle.rounding.specs.Rounding.{rounded}
 use Rattle.numbers.specs.Walks.{some, count}
-use Rattle.numbers.specs.Refusals.{verdict}
-use Rattle.numbers.specs.declared.Verdict.{Verdict}
-use Rattle.numbers.specs.declared.Verdict.TheVariants.{Fine, Refused}
+use Rattle.numbers.specs.Refusals.{verdict, Verdict}
 use Rattle.rotations.specs.Rotation.{matrix_of, wide}
 use Rattle.pose_conversion.specs.Conversions.{vec_f32, mat_f32, rebuilt, finite_pose, finite_transform}
 use Rattle.graph.specs.declared.Manifold.TheVariants.{Se3}
@@ -23,8 +21,8 @@ abbrev edge : Float → List Float
 edge w = num 0 ∷ num 0 ∷ num 0 ∷ num 1 ∷ num 0 ∷ num 0 ∷ num 0 ∷ w ∷ []
 
 abbrev number_and_place : Verdict → List ℕ
-number_and_place Fine = []
-number_and_place (Refused r) = r.number ∷ r.place ∷ []
+number_and_place (Ok _) = []
+number_and_place (Err r) = r.number ∷ r.place ∷ []
 
 -- three poses, the ends of two edges and the weights of these, and the fixed list
 pub data Case : Type 0 where

@@ -1,23 +1,21 @@
 -- The table of refusals, rows 1 to 19 and 26: document 01, "What is turned down, and in what order", and document 02, Wish 6. A line a row; 7 to 10 go
 -- edge by edge. What a row asks stands in its line, or under a name in `rows`, Tests, and for 26 in Islands. Definitions only.
-use Rattle.std.specs.Prelude.{ℕ, ◌*◌, not, ◌||◌, List, [], ◌∷◌, ◌++◌, length, eqb, ltb, leb}
+use Rattle.numbers.specs.declared.Refusal.{Refusal}
+use Rattle.std.specs.Prelude.{◌≡◌, ℕ, ◌*◌, not, ◌||◌, List, [], ◌∷◌, ◌++◌, length, eqb, ltb, leb, Err, Ok, Result}
 use Rattle.std.specs.Float.Ieee.Scale.{finite}
 use Rattle.numbers.specs.Notation.{if_then}
-use Rattle.numbers.specs.Walks.{table}
-use Rattle.numbers.specs.Refusals.{Fault, Row, row, placed, fault, verdict}
-use Rattle.numbers.specs.declared.Verdict.{Verdict}
-use Rattle.numbers.specs.declared.Verdict.TheVariants as verdict
+use Rattle.numbers.specs.Walks.{count, table}
+use Rattle.numbers.specs.Refusals.{Fault, Row, row, placed, fault, verdict, Verdict}
 use Rattle.rotations.specs.declared.Pose.{Pose}
 use Rattle.pose_conversion.specs.Conversions.{finite_pose, finite_transform}
 use Rattle.graph.specs.declared.Edge.{Edge}
 use Rattle.graph.specs.Graph.{Graph, is_free, block_of, free_count}
 use Rattle.graph.specs.Lent.{dof_of, none}
+use Rattle.rows.specs.declared.Settings.{Settings}
 use Rattle.rows.specs.Tests.{bad_gravity, unfit, too_many, short_work, fixed_faults, setting_rows}
 use Rattle.checks.specs.declared.Counts.{Counts}
-use Rattle.checks.specs.declared.Checked.{Checked}
-use Rattle.checks.specs.declared.Checked.TheVariants as checked
 use Rattle.checks.specs.declared.Checks.{Checks}
-use Rattle.checks.specs.Input.{Input, graph_of}
+use Rattle.checks.specs.Input.{Input, graph_of, lent_graph}
 use Rattle.checks.specs.Islands.{is_loose}
 
 -- ---- the table
@@ -76,19 +74,34 @@ rows i = graph_rows i ++ setting_rows i.settings
 abbrev pub counts_of : Input → Counts
 counts_of i = record { poses = (graph_of i).poses; edges = (graph_of i).edges; free = free_count (graph_of i) }
 
-abbrev pub checked_by : Verdict → Counts → Checked
-checked_by verdict.Fine c = checked.Fit c
-checked_by (verdict.Refused r) c = checked.Turned r
+abbrev pub checked_by : Verdict → Counts → Result Counts Refusal
+checked_by (Ok _) c = Ok c
+checked_by (Err r) c = Err r
 
 -- a free pose's block, or none
 unfoldable pub block_number : {P M : Type 0} → Graph P M → ℕ → ℕ
 block_number g x = if_then (is_free g x) (block_of g x) none
 
+-- the array of blocks that the ends and the fixed list make, and how many poses are free
+abbrev pub Numbered : List ℕ → List ℕ → List ℕ → ℕ → Type 0
+Numbered ends fixed at free =
+    let g = lent_graph [] ends [] fixed in
+    (at ≡ table (block_number g) 256) × (free ≡ count (is_free g) 256)
+
 abbrev pub blocks_of : Input → List ℕ
 blocks_of i = table (block_number (graph_of i)) 256
 
+-- of the graph alone
+abbrev pub graph_answer : Input → Result Counts Refusal
+graph_answer i = checked_by (verdict (graph_rows i)) (counts_of i)
+
+-- that, and where it is counts, what the settings say
+abbrev pub settings_answer : Result Counts Refusal → Settings → Result Counts Refusal
+settings_answer (Ok c) s = checked_by (verdict (setting_rows s)) c
+settings_answer (Err r) s = Err r
+
 unfoldable pub graph_checks : Input → Checks
-graph_checks i = record { answer = checked_by (verdict (graph_rows i)) (counts_of i); blocks = blocks_of i }
+graph_checks i = record { answer = graph_answer i; blocks = blocks_of i }
 
 unfoldable pub checks : Input → Checks
 checks i = record { answer = checked_by (verdict (rows i)) (counts_of i); blocks = blocks_of i }

@@ -1,5 +1,10 @@
 -- A cell written is the cell that is read; the cells of poses, written one after another. Assumes nothing.
 use Prim.Native.Nat.{ℕ, zero, suc, ◌+◌, ◌*◌, ◌-◌, ◌/◌, ◌<◌, ◌≤◌}
+use Rattle.exp_log.specs.Formats.{Twist}
+use Rattle.residual.specs.declared.Linked.{Linked}
+use Rattle.numbers.specs.declared.Failure.{Failure}
+use Rattle.rotations.specs.Formats.{Transform}
+use Rattle.std.specs.Prelude.{Err, Ok, Result}
 use mathlib.Core.Path.{◌≡◌, refl, sym, ap, subst, ◌∙◌}
 use mathlib.Core.Logic.{◌⊎◌, inl, inr}
 use mathlib.Core.Bool.{Bool, true, false}
@@ -18,25 +23,21 @@ use Rattle.numbers.specs.declared.Failure.TheVariants.{Numerical}
 use Rattle.numbers.proofs.Choices.{taken, left}
 use Rattle.rotations.specs.declared.Pose.{Pose}
 use Rattle.pose_conversion.specs.Conversions.{checked_transform}
-use Rattle.pose_conversion.specs.declared.Converted.{Converted}
-use Rattle.pose_conversion.specs.declared.Converted.TheVariants.{Into, Bad}
 use Rattle.graph.specs.Lent.{pose_at, edge_from}
 use Rattle.graph.specs.declared.Edge.{Edge}
 use Rattle.residual.specs.Residuals.{residual_of}
 use Rattle.residual.specs.EdgeParts.{linked_of, six_in}
-use Rattle.residual.specs.declared.Linked.{Linked}
-use Rattle.residual.specs.declared.Residual.{Residual}
 use Rattle.residual.proofs.Linking.{residual_by}
 use Rattle.costs.specs.Stowed.{eight_of, with_cell, stowing, stowed_from, stowed_in, Stows, known_poses, with_bases, base_in, Based}
 
-cell_stowed : (x : Converted) → stowed_from (edge_from (λ j. get_or (eight_of x) j nan)) ≡ x
+cell_stowed : (x : Result Transform Failure) → stowed_from (edge_from (λ j. get_or (eight_of x) j nan)) ≡ x
 unfolding stowed_from edge_from if_then ratio lt
-cell_stowed (Into a) = refl
-cell_stowed (Bad Numerical) = refl
+cell_stowed (Ok a) = refl
+cell_stowed (Err Numerical) = refl
 
-pub cell_length : (x : Converted) → length (eight_of x) ≡ 8
-cell_length (Into a) = refl
-cell_length (Bad why) = refl
+pub cell_length : (x : Result Transform Failure) → length (eight_of x) ≡ 8
+cell_length (Ok a) = refl
+cell_length (Err why) = refl
 
 edge_ext : (f g : ℕ → Float) → ((j : ℕ) → j < 8 → f j ≡ g j) → edge_from f ≡ edge_from g
 unfolding edge_from
@@ -71,10 +72,10 @@ module _ (d : List Float) (at : ℕ) (s : List Float) (n : ℕ) (hd : at + n ≤
       ∙ get_or-drop (at + n) d (i - (at + n)) nan)
 
 -- ---- a cell replaced
-cell_pasted : (l : List Float) (e : ℕ) (x : Converted) → with_cell l e x ≡ paste l (e * 8) (eight_of x) 8
+cell_pasted : (l : List Float) (e : ℕ) (x : Result Transform Failure) → with_cell l e x ≡ paste l (e * 8) (eight_of x) 8
 unfolding with_cell
-cell_pasted l e (Into a) = refl
-cell_pasted l e (Bad why) = refl
+cell_pasted l e (Ok a) = refl
+cell_pasted l e (Err why) = refl
 
 apart : (k e : ℕ) → (k ≡ e → ⊥) → (k < e) ⊎ (e < k)
 apart k e h = go (ltb k e) (ltb e k) (ltb-true k e) (ltb-true e k) (ltb-false k e) (ltb-false e k)
@@ -84,7 +85,7 @@ apart k e h = go (ltb k e) (ltb e k) (ltb-true k e) (ltb-true e k) (ltb-false k 
     go false true p q r s = inr (q refl)
     go false false p q r s = let x : e ≤ k = r refl in let y : k ≤ e = s refl in absurd (h (omega arith))
 
-cell_stows : (l : List Float) (e : ℕ) (x : Converted) → e * 8 + 8 ≤ length l → Stows l (with_cell l e x) e x
+cell_stows : (l : List Float) (e : ℕ) (x : Result Transform Failure) → e * 8 + 8 ≤ length l → Stows l (with_cell l e x) e x
 cell_stows l e x b = subst (λ (m : List Float). Stows l m e x) (sym (cell_pasted l e x)) made
   where
     full : 8 ≤ length (eight_of x)
@@ -105,26 +106,26 @@ cell_stows l e x b = subst (λ (m : List Float). Stows l m e x) (sym (cell_paste
         }
 
 -- ---- a cell replaced where it is lent
-stowing_in : (l : List Float) (e : ℕ) (x : Converted) → e < length l / 8 → stowing l e x ≡ with_cell l e x
+stowing_in : (l : List Float) (e : ℕ) (x : Result Transform Failure) → e < length l / 8 → stowing l e x ≡ with_cell l e x
 unfolding stowing
 stowing_in l e x h = sym (taken l (lt-ltb e (length l / 8) h) refl)
 
-stowing_not : (l : List Float) (e : ℕ) (x : Converted) → length l / 8 ≤ e → stowing l e x ≡ l
+stowing_not : (l : List Float) (e : ℕ) (x : Result Transform Failure) → length l / 8 ≤ e → stowing l e x ≡ l
 unfolding stowing
 stowing_not l e x h = sym (left (with_cell l e x) (le-ltb e (length l / 8) h) refl)
 
-pub stowing_stows : (l : List Float) (e : ℕ) (x : Converted) → e < length l / 8 → Stows l (stowing l e x) e x
+pub stowing_stows : (l : List Float) (e : ℕ) (x : Result Transform Failure) → e < length l / 8 → Stows l (stowing l e x) e x
 stowing_stows l e x h = subst (λ (m : List Float). Stows l m e x) (sym (stowing_in l e x h)) (cell_stows l e x (omega arith))
 
 -- either it is lent, or nothing changes
-stowed_or_same : (l : List Float) (e : ℕ) (x : Converted) → (Stows l (stowing l e x) e x) ⊎ (stowing l e x ≡ l)
+stowed_or_same : (l : List Float) (e : ℕ) (x : Result Transform Failure) → (Stows l (stowing l e x) e x) ⊎ (stowing l e x ≡ l)
 stowed_or_same l e x = go (ltb e (length l / 8)) (ltb-true e (length l / 8)) (ltb-false e (length l / 8))
   where
     go : (b : Bool) → (b ≡ true → e < length l / 8) → (b ≡ false → length l / 8 ≤ e) → (Stows l (stowing l e x) e x) ⊎ (stowing l e x ≡ l)
     go true p q = inl (stowing_stows l e x (p refl))
     go false p q = inr (stowing_not l e x (q refl))
 
-pub stowing_length : (l : List Float) (e : ℕ) (x : Converted) → length (stowing l e x) ≡ length l
+pub stowing_length : (l : List Float) (e : ℕ) (x : Result Transform Failure) → length (stowing l e x) ≡ length l
 stowing_length l e x = go (stowed_or_same l e x)
   where
     go : (Stows l (stowing l e x) e x) ⊎ (stowing l e x ≡ l) → length (stowing l e x) ≡ length l
@@ -133,11 +134,11 @@ stowing_length l e x = go (stowed_or_same l e x)
 
 -- how the code reads a cell
 module _ (r : Edge) where
-  pub stowed_had : lt (num 0) r.weight ≡ true → Into r.measured ≡ stowed_from r
+  pub stowed_had : lt (num 0) r.weight ≡ true → Ok r.measured ≡ stowed_from r
   unfolding stowed_from
   stowed_had h = taken _ h refl
 
-  pub stowed_not : lt (num 0) r.weight ≡ false → Bad Numerical ≡ stowed_from r
+  pub stowed_not : lt (num 0) r.weight ≡ false → Err Numerical ≡ stowed_from r
   unfolding stowed_from
   stowed_not h = left _ h refl
 
@@ -166,13 +167,13 @@ with_bases_lem poses (suc n) l h =
     m : List Float
     m = with_bases poses n l
 
-    y : Converted
+    y : Result Transform Failure
     y = checked_transform (pose_at poses n)
 
     holds : Stows m (stowing m n y) n y
     holds = stowing_stows m n y (subst (λ (k : ℕ). n < k / 8) (sym (with_bases_length poses n l)) (omega arith))
 
-pub with_bases_more : (poses : List Float) (n : ℕ) (l : List Float) {m m' : List Float} {y : Converted} {p : Pose}
+pub with_bases_more : (poses : List Float) (n : ℕ) (l : List Float) {m m' : List Float} {y : Result Transform Failure} {p : Pose}
     → m ≡ with_bases poses n l → m' ≡ stowing m n y → y ≡ checked_transform p → p ≡ pose_at poses n → m' ≡ with_bases poses (n + 1) l
 unfolding with_bases
 with_bases_more poses n l i h e f = rw (add-one, h, i, e, f)
@@ -192,6 +193,6 @@ base_based poses l n x h = go (ltb x n) (ltb-true x n)
     go false q = refl
 
 -- the residual of an edge by the cells of its ends
-pub residual_stowed : (poses l : List Float) (n a b : ℕ) (e : Edge) {z : Linked} {r : Residual} → Based poses l n
+pub residual_stowed : (poses l : List Float) (n a b : ℕ) (e : Edge) {z : Result Linked Failure} {r : Result Twist Failure} → Based poses l n
     → z ≡ linked_of (base_in l n poses a) (base_in l n poses b) e → r ≡ six_in z → r ≡ residual_of (pose_at poses a) (pose_at poses b) e
 residual_stowed poses l n a b e based p q = residual_by (pose_at poses a) (pose_at poses b) e (base_based poses l n a based) (base_based poses l n b based) p q

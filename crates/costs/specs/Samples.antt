@@ -1,5 +1,6 @@
 -- Document 01's sample costs, computed by antt. Assumes nothing.
-use Rattle.std.specs.Prelude.{◌≡◌, refl, List, [], ◌∷◌, ◌++◌, map, ℕ, Float}
+use Rattle.costs.specs.declared.BadEdge.{BadEdge}
+use Rattle.std.specs.Prelude.{◌≡◌, refl, List, [], ◌∷◌, ◌++◌, map, ℕ, Float, Err, Ok, Result}
 use Rattle.std.specs.Float.{binary32, binary64}
 use Rattle.std.specs.Float.Ieee.{of_bits, to_bits, add, sub, mul, div, neg, lt, le}
 use Rattle.numbers.specs.Notation.{num, ratio, if_then}
@@ -13,8 +14,6 @@ use Rattle.pose_conversion.specs.Conversions.{vec_f32, mat_f32, transform_of, re
 use Rattle.graph.specs.Lent.{pose_from, pose_at, edge_from, slot_in, lent_links, none}
 use Rattle.residual.specs.Residuals.{error_of, weighted_vec, weighted, finite_twist, six_if_finite, residual_of}
 use Rattle.costs.specs.Costs.{square_step, priced, price_at, cost_ends, cost_of}
-use Rattle.costs.specs.declared.Cost.{Cost}
-use Rattle.costs.specs.declared.Cost.TheVariants as cost
 
 -- a pose with no turn at (x, 0, 0), and an edge that measured one, of weight w
 abbrev pose : Float → List Float
@@ -24,9 +23,9 @@ abbrev edge : ℕ → Float → List Float
 edge x w = num 0 ∷ num 0 ∷ num 0 ∷ num 1 ∷ num x ∷ num 0 ∷ num 0 ∷ w ∷ []
 
 -- the bits of a cost; none where it can't be had
-abbrev bits : Cost → List ℕ
-bits (cost.Of c) = to_bits binary32 c ∷ []
-bits (cost.Bad k why) = []
+abbrev bits : Result Float BadEdge → List ℕ
+bits (Ok c) = to_bits binary32 c ∷ []
+bits (Err bad) = []
 
 -- Pose 0 is fixed at the identity. An edge from it to pose 1 at (x, 0, 0), which is free; or to pose 1 at (1, 0, 0), with a second edge to a third pose
 -- at (x, 0, 0), which is fixed.

@@ -2,58 +2,53 @@
 #![tactic(auto)]
 
 ghost use Rattle.std.specs.Prelude.{◌≡◌, ◌+◌, ◌*◌, ◌/◌, ◌<◌, ◌≤◌, length};
-ghost use Rattle.numbers.specs.Walks.{each, well, only};
-ghost use Rattle.graph.specs.Graph.{is_block, is_active};
+ghost use Rattle.numbers.specs.Walks.{each, well, only, made};
+ghost use Rattle.graph.specs.Graph.{is_active};
 ghost use Rattle.graph.specs.Lent.{pose_at, edge_at, lent_links};
 ghost use Rattle.residual.specs.EdgeParts.{linked_of};
 ghost use Rattle.costs.specs.Stowed.{eight_of, with_cell, stowing, stowed_from, stowed_in, known_poses, with_bases, base_in, Based};
-ghost use Rattle.costs.specs.Costs.{square_step, priced, priced_from, price_at, cost_of};
+ghost use Rattle.costs.specs.Costs.{square_step, priced, price_at, cost_of};
 
-use graph::{Edge, Slot};
-use numbers::{Failure, Went};
-use pose_conversion::Converted;
-use residual::{Linked, Residual};
+use exp_log::Twist;
+use graph::Edge;
+use numbers::Failure;
+use residual::Linked;
+use rotations::Transform;
 
-// A cost with one edge more; or why it can't be had.
+// Why a cost can't be had: the first bad edge among all edges, and what is wrong with it.
 #[derive(Clone, Copy)]
-pub enum Priced {
-    Of(f32),
-    Bad(Failure),
+pub struct BadEdge {
+    pub edge: usize,
+    pub why: Failure,
 }
 
-// The cost; or the first bad edge among all edges, and why it can't be had.
-#[derive(Clone, Copy)]
-pub enum Cost {
-    Of(f32),
-    Bad { edge: usize, why: Failure },
-}
-
-// ---- transforms stowed in numbers
+// ---- transforms stowed in numbers: `stow`, `stowed`, `base_at` and the Jacobians' laws (`Cells`) promise what stands in lent numbers, so these are no array
+// of Results
 
 // The eight numbers of a cell: quaternion, translation, and whether it could be had.
-fn eight_of(x: Converted) -> [f32; 8]
+fn eight_of(x: Result<Transform<f32>, Failure>) -> [f32; 8]
     ensures { result ≡ eight_of x }
 {
     match x {
-        Converted::Into(a) => {
+        Ok(a) => {
             let q = a.q;
             let t = a.t;
             [q.x, q.y, q.z, q.w, t.x, t.y, t.z, 1.0]
         }
-        Converted::Bad(_) => [0.0; 8],
+        Err(_) => [0.0; 8],
     }
 }
 
-fn put_cell(l: &mut [f32], e: usize, x: Converted)
+fn put_cell(l: &mut [f32], e: usize, x: Result<Transform<f32>, Failure>)
     requires { e * 8 + 8 ≤ length l.old }
     ensures { l.new ≡ with_cell l.old e x }
 {
     let at = e * 8;
-    slices::copy32(&eight_of(x), &mut l[at..at + 8]);
+    slices::copy(&eight_of(x), &mut l[at..at + 8]);
 }
 
 // Cell e becomes x, where it is lent.
-pub fn stow(l: &mut [f32], e: usize, x: Converted)
+pub fn stow(l: &mut [f32], e: usize, x: Result<Transform<f32>, Failure>)
     ensures { l.new ≡ stowing l.old e x }
 {
     if e < l.len() / 8 {
@@ -62,19 +57,19 @@ pub fn stow(l: &mut [f32], e: usize, x: Converted)
 }
 
 // What the eight numbers of a cell stand for.
-pub fn stowed_from(cell: Edge) -> Converted
+pub fn stowed_from(cell: Edge) -> Result<Transform<f32>, Failure>
     ensures { result ≡ stowed_from cell }
 {
     let a = cell.measured;
     if 0.0 < cell.weight {
-        Converted::Into(a)
+        Ok(a)
     } else {
-        Converted::Bad(Failure::Numerical)
+        Err(Failure::Numerical)
     }
 }
 
 // What cell e holds.
-pub fn stowed(l: &[f32], e: usize) -> Converted
+pub fn stowed(l: &[f32], e: usize) -> Result<Transform<f32>, Failure>
     ensures { result ≡ stowed_in l.now e }
 {
     stowed_from(graph::edge_at(l, e))
@@ -84,8 +79,7 @@ pub fn stowed(l: &[f32], e: usize) -> Converted
 pub fn known_poses(poses: &[f64]) -> usize
     ensures { result ≡ known_poses (length poses.now) }
 {
-    let count = poses.len() / 12;
-    if count < 256 { count } else { 256 }
+    (poses.len() / 12).min(256)
 }
 
 // The first cells become the transforms of the first poses.
@@ -99,7 +93,12 @@ pub fn fill_bases(known: &mut [f32], poses: &[f64])
 }
 
 // The transform of pose x: from its cell, if there is one.
-pub fn base_at(known: &[f32], count: usize, poses: &[f64], x: usize) -> Converted
+pub fn base_at(
+    known: &[f32],
+    count: usize,
+    poses: &[f64],
+    x: usize,
+) -> Result<Transform<f32>, Failure>
     ensures { result ≡ base_in known.now count poses.now x }
 {
     if x < count {
@@ -117,7 +116,7 @@ pub fn linked_at(
     a: usize,
     b: usize,
     k: usize,
-) -> Linked
+) -> Result<Linked, Failure>
     ensures { result ≡ linked_of (base_in known.now count poses.now a) (base_in known.now count poses.now b) (edge_at edges.now k) }
 {
     let from = base_at(known, count, poses, a);
@@ -128,39 +127,24 @@ pub fn linked_at(
 // ---- the cost
 
 // c and the six squares, each sum finite.
-fn add_squares(six: [f32; 6], c: f32) -> Priced
-    ensures { result ≡ priced_from (well (each (square_step six) 6 c)) }
+fn add_squares(six: [f32; 6], c: f32) -> Result<f32, Failure>
+    ensures { result ≡ made (well (each (square_step six) 6 c)) }
 {
     let mut sum = c;
-    let mut j: usize = 0;
-    while j < 6 {
+    for j in 0..6usize {
         let v = six[j];
         sum = sum + v * v;
-        if let Went::Bad(why) = numbers::must_be_finite(sum) {
-            return Priced::Bad(why);
-        }
-        j += 1;
+        numbers::must_be_finite(sum)?;
     }
-    Priced::Of(sum)
+    Ok(sum)
 }
 
 // What a residual makes of a cost.
-pub fn accumulate_edge_squared_cost(r: Residual, c: f32) -> Priced
-    ensures { result ≡ priced_from (priced r c) }
+pub fn accumulate_edge_squared_cost(r: Result<Twist<f32>, Failure>, c: f32) -> Result<f32, Failure>
+    ensures { result ≡ made (priced r c) }
 {
-    match r {
-        Residual::Six(d) => add_squares(residual::six_of(d), c),
-        Residual::Failed(why) => Priced::Bad(why),
-    }
-}
-
-fn is_block(s: Slot) -> bool
-    ensures { result ≡ is_block s }
-{
-    match s {
-        Slot::Block(_) => true,
-        Slot::Fixed => false,
-    }
+    let d = r?;
+    add_squares(residual::six_of(d), c)
 }
 
 // What edge k makes of a cost, an edge that is not active passed over.
@@ -174,17 +158,17 @@ fn active_edge_cost(
     free: u32,
     k: usize,
     c: f32,
-) -> Priced
+) -> Result<f32, Failure>
     requires { (k < length ends.now / 2) × Based poses.now known.now count }
-    ensures { result ≡ priced_from (only (is_active (lent_links ends.now edges.now blocks.now free) k)
+    ensures { result ≡ made (only (is_active (lent_links ends.now edges.now blocks.now free) k)
         (price_at (lent_links ends.now edges.now blocks.now free) (pose_at poses.now) k) c) }
 {
     let a = numbers::index_at(ends, k * 2);
     let b = numbers::index_at(ends, k * 2 + 1);
-    let active = is_block(graph::slot_at(blocks, free, a))
-        | is_block(graph::slot_at(blocks, free, b));
+    let active = graph::slot_at(blocks, free, a).is_some()
+        | graph::slot_at(blocks, free, b).is_some();
     if !active {
-        return Priced::Of(c);
+        return Ok(c);
     }
     accumulate_edge_squared_cost(
         residual::six_in(linked_at(known, count, poses, edges, a, b, k)),
@@ -201,21 +185,18 @@ fn cost_over(
     edges: &[f32],
     blocks: &[u32; 256],
     free: u32,
-) -> Cost
+) -> Result<f32, BadEdge>
     requires { Based poses.now known.now count }
     ensures { result ≡ cost_of (lent_links ends.now edges.now blocks.now free) (pose_at poses.now) }
 {
-    let all = ends.len() / 2;
-    let mut c: f32 = 0.0;
-    let mut k: usize = 0;
-    while k < all {
+    let mut c = 0.0f32;
+    for k in 0..ends.len() / 2 {
         match active_edge_cost(known, count, poses, ends, edges, blocks, free, k, c) {
-            Priced::Of(x) => c = x,
-            Priced::Bad(why) => return Cost::Bad { edge: k, why },
+            Ok(more) => c = more,
+            Err(why) => return Err(BadEdge { edge: k, why }),
         }
-        k += 1;
     }
-    Cost::Of(c)
+    Ok(c)
 }
 
 // The cost of the active edges at the lent poses.
@@ -225,7 +206,7 @@ pub fn active_total_squared_residual_cost(
     edges: &[f32],
     blocks: &[u32; 256],
     free: u32,
-) -> Cost
+) -> Result<f32, BadEdge>
     ensures { result ≡ cost_of (lent_links ends.now edges.now blocks.now free) (pose_at poses.now) }
 {
     let mut known = [0.0f32; 2048];

@@ -1,5 +1,7 @@
 -- The last turn of a run: every way by which a turn ends it, and so what a refusal means and how many solves were tried; every run that is over has such a
 -- turn, and a run that comes to such a turn is over by it. Assumes nothing.
+use Rattle.decisions.specs.declared.Why.{Why}
+use Rattle.std.specs.Prelude.{Err, None, Ok, Option, Result, Some}
 use mathlib.Core.Path.{◌≡◌, refl, sym, ap, ◌∙◌, subst}
 use mathlib.Core.Logic.{◌⊎◌, inl, inr}
 use mathlib.Core.Bool.{Bool, true, false}
@@ -25,10 +27,6 @@ use Rattle.decisions.specs.declared.Outcome.TheVariants as outcome
 use Rattle.decisions.specs.declared.Trial.TheVariants as trial
 use Rattle.decisions.specs.declared.Reason.TheVariants as reason
 use Rattle.decisions.specs.declared.Why.TheVariants as why
-use Rattle.decisions.specs.declared.End.{End}
-use Rattle.decisions.specs.declared.End.TheVariants as end
-use Rattle.decisions.specs.declared.Gate.{Gate}
-use Rattle.decisions.specs.declared.Gate.TheVariants as gate
 use Rattle.decisions.specs.declared.Next.{Next}
 use Rattle.decisions.specs.declared.Next.TheVariants as next
 use Rattle.decisions.proofs.Bounds.{Live, more_accepted, more_rejected, more_failed, more_solves}
@@ -37,17 +35,17 @@ use Rattle.decisions.proofs.Going.{Going, going_begin, going_on, going_done}
 
 -- ---- a turn that ends the run, by cases: what is shown of each way holds of the end
 
-pub record LastWays (Q : State → End → Type 0) (limit : ℕ) (s : State) (a : Assembly) (e : Raw) : Type 0 where
-  pub spent : Q s (end.Stopped why.Budget)
-  pub flat : Q s (end.Stopped why.Gradient)
-  pub refused : (r : Refusal) → s.fresh ≡ true → iterations s < limit → a ≡ assembly.Refused r → Q s (end.Refused r)
-  pub overdamped : passed limit s a ≡ gate.Go → e ≡ raw.Failed → lt lambda_max (increased s.damping) ≡ true → Q (after_failed s) (end.Refused (refusal 22 0))
-  pub small : Q (after_small s) (end.Stopped why.Step)
-  pub lowered : (new : Float) → Q (after_accepted s new) (end.Stopped why.Cost)
-  pub raised : Q (after_rejected s) (end.Stopped why.Damping)
-  pub rejected : Q (after_rejected s) (end.Stopped why.Budget)
+pub record LastWays (Q : State → Result Why Refusal → Type 0) (limit : ℕ) (s : State) (a : Assembly) (e : Raw) : Type 0 where
+  pub spent : Q s (Ok why.Budget)
+  pub flat : Q s (Ok why.Gradient)
+  pub refused : (r : Refusal) → s.fresh ≡ true → iterations s < limit → a ≡ assembly.Refused r → Q s (Err r)
+  pub overdamped : passed limit s a ≡ None → e ≡ raw.Failed → lt lambda_max (increased s.damping) ≡ true → Q (after_failed s) (Err (refusal 22 0))
+  pub small : Q (after_small s) (Ok why.Step)
+  pub lowered : (new : Float) → Q (after_accepted s new) (Ok why.Cost)
+  pub raised : Q (after_rejected s) (Ok why.Damping)
+  pub rejected : Q (after_rejected s) (Ok why.Budget)
 
-module _ (Q : State → End → Type 0) where
+module _ (Q : State → Result Why Refusal → Type 0) where
   abbrev AtEnd : Next → Type 0
   AtEnd (next.On s) = Unit {0}
   AtEnd (next.Over s w) = Q s w
@@ -58,16 +56,16 @@ module _ (Q : State → End → Type 0) where
   chosen false n m f g = g refl
 
   module _ (limit : ℕ) (tolerance : Float) (s : State) (a : Assembly) (e : Raw) (k : LastWays Q limit s a e) where
-    stop_ends : (w : End) → passed limit s a ≡ gate.Stop w → Q s w
+    stop_ends : (w : Result Why Refusal) → passed limit s a ≡ Some w → Q s w
     unfolding passed assembled if_then
     stop_ends w q = at s.fresh refl (leb limit (iterations s)) refl a refl q
       where
         at : (f : Bool) → s.fresh ≡ f → (l : Bool) → leb limit (iterations s) ≡ l → (c : Assembly) → a ≡ c
-            → if_then f (if_then l (gate.Stop (end.Stopped why.Budget)) (assembled c)) gate.Go ≡ gate.Stop w → Q s w
-        at true f true l c h q = let d : end.Stopped why.Budget ≡ w = cc in subst (Q s) d k.spent
+            → if_then f (if_then l (Some (Ok why.Budget)) (assembled c)) None ≡ Some w → Q s w
+        at true f true l c h q = let d : Ok why.Budget ≡ w = cc in subst (Q s) d k.spent
         at true f false l (assembly.Refused r) h q =
-            let d : end.Refused r ≡ w = cc in subst (Q s) d (k.refused r f (leb-false limit (iterations s) l) h)
-        at true f false l assembly.Flat h q = let d : end.Stopped why.Gradient ≡ w = cc in subst (Q s) d k.flat
+            let d : Err r ≡ w = cc in subst (Q s) d (k.refused r f (leb-false limit (iterations s) l) h)
+        at true f false l assembly.Flat h q = let d : Ok why.Gradient ≡ w = cc in subst (Q s) d k.flat
         at true f false l assembly.Steep h q = let z : ◌≡◌ {A = ℕ} 0 1 = cc in absurd (omega arith)
         at false f l m c h q = let z : ◌≡◌ {A = ℕ} 0 1 = cc in absurd (omega arith)
 
@@ -79,11 +77,11 @@ module _ (Q : State → End → Type 0) where
     unfolding accepting
     accept_ends new = chosen _ _ _ (λ h. k.lowered new) (λ h. tt)
 
-    fail_ends : passed limit s a ≡ gate.Go → e ≡ raw.Failed → AtEnd (failing s)
+    fail_ends : passed limit s a ≡ None → e ≡ raw.Failed → AtEnd (failing s)
     unfolding failing
     fail_ends g h = chosen _ _ _ (λ l. k.overdamped g h l) (λ l. tt)
 
-    solve_ends : passed limit s a ≡ gate.Go → (o : Raw) → e ≡ o → AtEnd (solved s limit tolerance (heard s.cost o))
+    solve_ends : passed limit s a ≡ None → (o : Raw) → e ≡ o → AtEnd (solved s limit tolerance (heard s.cost o))
     unfolding solved heard judged if_then
     solve_ends g raw.Failed h = fail_ends g h
     solve_ends g raw.Small h = k.small
@@ -94,13 +92,13 @@ module _ (Q : State → End → Type 0) where
         at true = accept_ends new
         at false = reject_ends
 
-    pub last_way : (t : State) (w : End) → after_turn limit tolerance s a e ≡ next.Over t w → Q t w
+    pub last_way : (t : State) (w : Result Why Refusal) → after_turn limit tolerance s a e ≡ next.Over t w → Q t w
     unfolding after_turn then_solve
     last_way t w q = subst AtEnd q (at (passed limit s a) refl)
       where
-        at : (g : Gate) → passed limit s a ≡ g → AtEnd (then_solve g limit tolerance s e)
-        at gate.Go h = solve_ends h e refl
-        at (gate.Stop v) h = stop_ends v h
+        at : (g : Option (Result Why Refusal)) → passed limit s a ≡ g → AtEnd (then_solve g limit tolerance s e)
+        at None h = solve_ends h e refl
+        at (Some v) h = stop_ends v h
 
 -- ---- what a refusal means: the top refuses by its assembly, or the solve fails and the damping raised is above 1e10
 
@@ -111,14 +109,14 @@ pub record TopRefuses (limit : ℕ) (s : State) (a : Assembly) (t : State) (r : 
   pub same : t ≡ s
 
 pub record SolveRefuses (limit : ℕ) (s : State) (a : Assembly) (e : Raw) (r : Refusal) : Type 0 where
-  pub to_solve : passed limit s a ≡ gate.Go
+  pub to_solve : passed limit s a ≡ None
   pub failed : e ≡ raw.Failed
   pub past : lt lambda_max (increased s.damping) ≡ true
   pub by_22 : r ≡ refusal 22 0
 
 module _ (limit : ℕ) (tolerance : Float) (s : State) (a : Assembly) (e : Raw) where
-  abbrev Means : State → End → Type 0
-  Means t w = (r : Refusal) → w ≡ end.Refused r → TopRefuses limit s a t r ⊎ SolveRefuses limit s a e r
+  abbrev Means : State → Result Why Refusal → Type 0
+  Means t w = (r : Refusal) → w ≡ Err r → TopRefuses limit s a t r ⊎ SolveRefuses limit s a e r
 
   means : LastWays Means limit s a e
   means =
@@ -133,35 +131,35 @@ module _ (limit : ℕ) (tolerance : Float) (s : State) (a : Assembly) (e : Raw) 
         rejected = λ r h. let z : ◌≡◌ {A = ℕ} 0 1 = cc in absurd (omega arith);
       }
 
-  pub turn_refuses : (t : State) (r : Refusal) → after_turn limit tolerance s a e ≡ next.Over t (end.Refused r)
+  pub turn_refuses : (t : State) (r : Refusal) → after_turn limit tolerance s a e ≡ next.Over t (Err r)
       → TopRefuses limit s a t r ⊎ SolveRefuses limit s a e r
-  turn_refuses t r q = last_way Means limit tolerance s a e means t (end.Refused r) q r refl
+  turn_refuses t r q = last_way Means limit tolerance s a e means t (Err r) q r refl
 
   -- and the other way round
   pub top_refuses : (r : Refusal) → s.fresh ≡ true → iterations s < limit → a ≡ assembly.Refused r
-      → after_turn limit tolerance s a e ≡ next.Over s (end.Refused r)
+      → after_turn limit tolerance s a e ≡ next.Over s (Err r)
   unfolding after_turn then_solve passed assembled if_then
   top_refuses r f l h = rw (f, lt-leb limit (iterations s) l, h)
 
-  pub solve_refuses : passed limit s a ≡ gate.Go → e ≡ raw.Failed → lt lambda_max (increased s.damping) ≡ true
-      → after_turn limit tolerance s a e ≡ next.Over (after_failed s) (end.Refused (refusal 22 0))
+  pub solve_refuses : passed limit s a ≡ None → e ≡ raw.Failed → lt lambda_max (increased s.damping) ≡ true
+      → after_turn limit tolerance s a e ≡ next.Over (after_failed s) (Err (refusal 22 0))
   unfolding after_turn then_solve solved heard failing if_then
   solve_refuses g f l = rw (g, f, l)
 
   -- a turn that goes on was let pass; and what is assembled at the top is then steep
-  pub on_passed : (t : State) → after_turn limit tolerance s a e ≡ next.On t → passed limit s a ≡ gate.Go
+  pub on_passed : (t : State) → after_turn limit tolerance s a e ≡ next.On t → passed limit s a ≡ None
   unfolding after_turn then_solve
   on_passed t q = at (passed limit s a) refl q
     where
-      at : (g : Gate) → passed limit s a ≡ g → then_solve g limit tolerance s e ≡ next.On t → passed limit s a ≡ gate.Go
-      at gate.Go h q = h
-      at (gate.Stop w) h q = let z : ◌≡◌ {A = ℕ} 0 1 = cc in absurd (omega arith)
+      at : (g : Option (Result Why Refusal)) → passed limit s a ≡ g → then_solve g limit tolerance s e ≡ next.On t → passed limit s a ≡ None
+      at None h q = h
+      at (Some w) h q = let z : ◌≡◌ {A = ℕ} 0 1 = cc in absurd (omega arith)
 
-pub passed_steep : (limit : ℕ) (s : State) (a : Assembly) → passed limit s a ≡ gate.Go → s.fresh ≡ true → a ≡ assembly.Steep
+pub passed_steep : (limit : ℕ) (s : State) (a : Assembly) → passed limit s a ≡ None → s.fresh ≡ true → a ≡ assembly.Steep
 unfolding passed assembled if_then
 passed_steep limit s a q f = at (leb limit (iterations s)) a (rw f at q)
   where
-    at : (l : Bool) (c : Assembly) → if_then l (gate.Stop (end.Stopped why.Budget)) (assembled c) ≡ gate.Go → c ≡ assembly.Steep
+    at : (l : Bool) (c : Assembly) → if_then l (Some (Ok why.Budget)) (assembled c) ≡ None → c ≡ assembly.Steep
     at true c q = let z : ◌≡◌ {A = ℕ} 0 1 = cc in absurd (omega arith)
     at false (assembly.Refused r) q = let z : ◌≡◌ {A = ℕ} 0 1 = cc in absurd (omega arith)
     at false assembly.Flat q = let z : ◌≡◌ {A = ℕ} 0 1 = cc in absurd (omega arith)
@@ -170,7 +168,7 @@ passed_steep limit s a q f = at (leb limit (iterations s)) a (rw f at q)
 -- ---- the solves tried, from a state that was live
 
 module _ (limit : ℕ) (first : Float) (s : State) (h : Live limit first s) (a : Assembly) (e : Raw) where
-  abbrev Counted : State → End → Type 0
+  abbrev Counted : State → Result Why Refusal → Type 0
   Counted t w = t.solves ≡ solves_tried t w
 
   counted : LastWays Counted limit s a e
@@ -186,12 +184,12 @@ module _ (limit : ℕ) (first : Float) (s : State) (h : Live limit first s) (a :
         rejected = omega (arith, h.tried, more_rejected limit first s h, more_solves limit first s h);
       }
 
-  pub turn_tried : (tolerance : Float) (t : State) (w : End) → after_turn limit tolerance s a e ≡ next.Over t w → t.solves ≡ solves_tried t w
+  pub turn_tried : (tolerance : Float) (t : State) (w : Result Why Refusal) → after_turn limit tolerance s a e ≡ next.Over t w → t.solves ≡ solves_tried t w
   turn_tried tolerance t w q = last_way Counted limit tolerance s a e counted t w q
 
 -- ---- the last turn of a run: so many turns come to a state that goes on, and the next one ends the run
 
-pub record Ending {X : Type 0} (m : Numerics X) (limit : ℕ) (tolerance cost damping : Float) (given : X) (t : State) (w : End) : Type 0 where
+pub record Ending {X : Type 0} (m : Numerics X) (limit : ℕ) (tolerance cost damping : Float) (given : X) (t : State) (w : Result Why Refusal) : Type 0 where
   pub turns : ℕ
   pub state : State
   pub held : X
@@ -224,7 +222,7 @@ module _ {X : Type 0} (m : Numerics X) (limit : ℕ) (tolerance : Float) where
       unfolding next_of held_of
       come_to = play_more k start given ∙ ap once_more b ∙ ap (λ (v : Next). record { next = v; held = held_then s x (state_of v) }) q
 
-    module _ (t : State) (w : End) where
+    module _ (t : State) (w : Result Why Refusal) where
       search_last : (k n : ℕ) (s : State) (x : X) → play m limit tolerance n start given ≡ record { next = next.On s; held = x }
           → (play m limit tolerance k (next.On s) x).next ≡ next.Over t w → Ending m limit tolerance cost damping given t w
       unfolding play next_of held_of
@@ -276,7 +274,7 @@ module _ {X : Type 0} (m : Numerics X) (limit : ℕ) (tolerance : Float) where
     abbrev Steady : State → X → Type 0
     Steady s x = s.fresh ≡ false → m.assemble x ≡ assembly.Steep
 
-    steep : (s : State) (x : X) → Steady s x → passed limit s (m.assemble x) ≡ gate.Go → m.assemble x ≡ assembly.Steep
+    steep : (s : State) (x : X) → Steady s x → passed limit s (m.assemble x) ≡ None → m.assemble x ≡ assembly.Steep
     steep s x h q = at s.fresh refl
       where
         at : (f : Bool) → s.fresh ≡ f → m.assemble x ≡ assembly.Steep
@@ -290,7 +288,7 @@ module _ {X : Type 0} (m : Numerics X) (limit : ℕ) (tolerance : Float) where
 
     -- so what goes on to a solve is steep
     pub solves_steep : (k : ℕ) (s : State) (x : X) → play m limit tolerance k start given ≡ record { next = next.On s; held = x }
-        → passed limit s (m.assemble x) ≡ gate.Go → m.assemble x ≡ assembly.Steep
+        → passed limit s (m.assemble x) ≡ None → m.assemble x ≡ assembly.Steep
     solves_steep k s x q = steep s x (kept_along Steady (λ f. absurd (subst T f tt)) stays_steady k s x q)
 
     -- ---- for a limit and a first damping that pass the checks
@@ -302,7 +300,7 @@ module _ {X : Type 0} (m : Numerics X) (limit : ℕ) (tolerance : Float) where
           kept_along (λ (s : State) (x : X). Going m limit tolerance cost damping given s x) (going_begin m limit tolerance cost damping given l f p u)
           (λ s x g t q. going_on m limit tolerance cost damping given s x g t q)
 
-      module _ (t : State) (w : End) (e : Ending m limit tolerance cost damping given t w) where
+      module _ (t : State) (w : Result Why Refusal) (e : Ending m limit tolerance cost damping given t w) where
         going_last : Going m limit tolerance cost damping given e.state e.held
         going_last = still_going e.turns e.state e.held e.before
 
@@ -317,6 +315,6 @@ module _ {X : Type 0} (m : Numerics X) (limit : ℕ) (tolerance : Float) where
             turn_tried limit cost e.state going_last.live a o tolerance t w e.last
 
 -- what has ended is over
-pub over_of : (n : Next) → ended n ≡ true → (t : State) × ((w : End) × (n ≡ next.Over t w))
+pub over_of : (n : Next) → ended n ≡ true → (t : State) × ((w : Result Why Refusal) × (n ≡ next.Over t w))
 over_of (next.On s) h = absurd (subst T (sym h) tt)
 over_of (next.Over t w) h = (t, (w, refl))

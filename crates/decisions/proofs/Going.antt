@@ -1,4 +1,7 @@
 -- What a loop that computes its events keeps, and what it knows at its end. Assumes nothing.
+use Rattle.numbers.specs.declared.Refusal.{Refusal}
+use Rattle.decisions.specs.declared.Why.{Why}
+use Rattle.std.specs.Prelude.{Result, Some}
 use mathlib.Core.Path.{◌≡◌, refl, sym, ◌∙◌, ap}
 use mathlib.Core.Bool.{true}
 use Prim.Native.Nat.{ℕ, suc, ◌+◌, ◌-◌, ◌≤◌, ◌<◌}
@@ -13,8 +16,6 @@ use Rattle.decisions.specs.Damping.{lambda_max}
 use Rattle.decisions.specs.Run.{begun, passed, after_turn}
 use Rattle.decisions.specs.Machine.{Numerics, moved_on, next_of, held_of, play, played, enough, state_of}
 use Rattle.decisions.specs.declared.State.{State}
-use Rattle.decisions.specs.declared.Gate.TheVariants as gate
-use Rattle.decisions.specs.declared.End.{End}
 use Rattle.decisions.specs.declared.Next.{Next}
 use Rattle.decisions.specs.declared.Next.TheVariants as next
 use Rattle.decisions.proofs.Ways.{turned_stop}
@@ -71,7 +72,7 @@ module _ {X : Type 0} (m : Numerics X) (limit : ℕ) (tolerance cost damping : F
           let b : s.solves < enough limit = live_solves limit cost s g.live in
           omega arith
 
-    pub going_done : (t : State) (e : End) → after_turn limit tolerance s (m.assemble x) (m.attempt x s.damping) ≡ next.Over t e
+    pub going_done : (t : State) (e : Result Why Refusal) → after_turn limit tolerance s (m.assemble x) (m.attempt x s.damping) ≡ next.Over t e
         → played m limit tolerance cost damping given ≡ record { next = next.Over t e; held = moved_on s t (m.moved x s.damping) x }
     going_done t e q =
         turn_rest
@@ -79,7 +80,7 @@ module _ {X : Type 0} (m : Numerics X) (limit : ℕ) (tolerance cost damping : F
         ∙ play_over m limit tolerance (enough limit - (s.solves + 1)) t e (then t)
 
     -- where the top stops the run, nothing has moved
-    pub going_stop : (e : End) → passed limit s (m.assemble x) ≡ gate.Stop e → played m limit tolerance cost damping given ≡ record { next = next.Over s e; held = x }
+    pub going_stop : (e : Result Why Refusal) → passed limit s (m.assemble x) ≡ Some e → played m limit tolerance cost damping given ≡ record { next = next.Over s e; held = x }
     unfolding moved_on
     going_stop e q =
         going_done s e (turned_stop limit tolerance s (m.assemble x) (m.attempt x s.damping) e q)

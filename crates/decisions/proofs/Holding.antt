@@ -2,6 +2,7 @@
 use Prim.Native.Nat.{ℕ, zero, suc, ◌+◌, ◌≤◌, ◌<◌}
 use native.Mathlib.Nat.{le_of_eq}
 use native.Mathlib.Omega.{arith}
+use Rattle.std.specs.Prelude.{None, Ok, Some}
 use mathlib.Core.Path.{◌≡◌, refl, sym, subst}
 use mathlib.Core.Bool.{Bool, true, false}
 use lib.Dec.{T, leb}
@@ -19,8 +20,6 @@ use Rattle.decisions.specs.declared.Outcome.TheVariants as outcome
 use Rattle.decisions.specs.declared.Trial.TheVariants as trial
 use Rattle.decisions.specs.declared.Reason.TheVariants as reason
 use Rattle.decisions.specs.declared.Why.TheVariants as why
-use Rattle.decisions.specs.declared.End.TheVariants as end
-use Rattle.decisions.specs.declared.Gate.TheVariants as gate
 use Rattle.decisions.specs.declared.Next.{Next}
 use Rattle.decisions.specs.declared.Next.TheVariants as next
 use Rattle.decisions.specs.Run.{begun, iterations, one_more, judged, heard, failing, accepting, rejecting, solved, assembled, passed, then_solve, after_turn}
@@ -73,7 +72,7 @@ module _ (limit : ℕ) (tolerance : Float) (s : State) where
       over assembly.Steep = solved_tells e
 
       top : (fresh spent : Bool) (a : Assembly)
-          → Tells s e (state_of (then_solve (if_then fresh (if_then spent (gate.Stop (end.Stopped why.Budget)) (assembled a)) gate.Go) limit tolerance s e))
+          → Tells s e (state_of (then_solve (if_then fresh (if_then spent (Some (Ok why.Budget)) (assembled a)) None) limit tolerance s e))
       top true true a = stayed refl refl
       top true false a = over a
       top false spent a = solved_tells e

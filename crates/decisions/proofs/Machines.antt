@@ -1,4 +1,7 @@
 -- The run over numerics: demand 3 holds of it, it ends within `enough` turns, and while A is 0 what the numerics hold is as it was. Assumes nothing.
+use Rattle.numbers.specs.declared.Refusal.{Refusal}
+use Rattle.decisions.specs.declared.Why.{Why}
+use Rattle.std.specs.Prelude.{Result}
 use mathlib.Core.Path.{◌≡◌, refl, sym, ◌∙◌, ap, subst}
 use mathlib.Core.Bool.{Bool, true, false}
 use Prim.Native.Nat.{ℕ, zero, suc, ◌+◌, ◌≤◌, ◌<◌}
@@ -16,7 +19,6 @@ use Rattle.decisions.specs.Machine.{Numerics, Play, moved_on, next_of, held_of, 
 use Rattle.decisions.specs.declared.State.{State}
 use Rattle.decisions.specs.declared.Assembly.{Assembly}
 use Rattle.decisions.specs.declared.Raw.{Raw}
-use Rattle.decisions.specs.declared.End.{End}
 use Rattle.decisions.specs.declared.Next.{Next}
 use Rattle.decisions.specs.declared.Next.TheVariants as next
 use Rattle.decisions.proofs.Ways.{Both, Cases, turn_cases}
@@ -85,7 +87,7 @@ pub live_solves : (limit : ℕ) (first : Float) (s : State) → Live limit first
 live_solves limit first s h = omega (arith, h.tried, h.trials, h.level.low)
 
 module _ {X : Type 0} (m : Numerics X) (limit : ℕ) (tolerance : Float) where
-  pub play_over : (k : ℕ) (s : State) (e : End) (x : X) → play m limit tolerance k (next.Over s e) x ≡ record { next = next.Over s e; held = x }
+  pub play_over : (k : ℕ) (s : State) (e : Result Why Refusal) (x : X) → play m limit tolerance k (next.Over s e) x ≡ record { next = next.Over s e; held = x }
   unfolding play next_of held_of
   play_over zero s e x = refl
   play_over (suc k) s e x = play_over k s e x

@@ -1,6 +1,7 @@
 -- Which refusals the machine can end with: those of its assemblies, and 22. Assumes nothing.
 use Prim.Native.Nat.{ℕ, zero, suc}
 use native.Mathlib.Omega.{arith}
+use Rattle.std.specs.Prelude.{Err, None, Ok, Some}
 use mathlib.Core.Path.{◌≡◌, refl, subst}
 use mathlib.Core.Bool.{Bool, true, false}
 use lib.Dec.{leb}
@@ -17,8 +18,6 @@ use Rattle.decisions.specs.declared.Outcome.TheVariants as outcome
 use Rattle.decisions.specs.declared.Trial.TheVariants as trial
 use Rattle.decisions.specs.declared.Why.{Why}
 use Rattle.decisions.specs.declared.Why.TheVariants as why
-use Rattle.decisions.specs.declared.End.TheVariants as end
-use Rattle.decisions.specs.declared.Gate.TheVariants as gate
 use Rattle.decisions.specs.declared.Next.{Next}
 use Rattle.decisions.specs.declared.Next.TheVariants as next
 use Rattle.decisions.specs.Run.{begun, iterations, heard, stop, failing, accepting, rejecting, solved, assembled, passed, then_solve, after_turn}
@@ -27,7 +26,7 @@ use Rattle.decisions.specs.Machine.{Numerics, next_of, held_of, play, enough, pl
 -- Q holds of every refusal that one ends with
 module _ (Q : Refusal → Type 0) where
   abbrev Ends : Next → Type 0
-  Ends n = (s : State) (r : Refusal) → n ≡ next.Over s (end.Refused r) → Q r
+  Ends n = (s : State) (r : Refusal) → n ≡ next.Over s (Err r) → Q r
 
   on : (s : State) → Ends (next.On s)
   on s t r e = let z : ◌≡◌ {A = ℕ} 0 1 = cc in absurd (omega arith)
@@ -35,7 +34,7 @@ module _ (Q : Refusal → Type 0) where
   stopped : (s : State) (w : Why) → Ends (stop s w)
   stopped s w t r e = let z : ◌≡◌ {A = ℕ} 0 1 = cc in absurd (omega arith)
 
-  refused : (s : State) (q : Refusal) → Q q → Ends (next.Over s (end.Refused q))
+  refused : (s : State) (q : Refusal) → Q q → Ends (next.Over s (Err q))
   refused s q h t r e = let d : q ≡ r = cc in subst Q d h
 
   chosen : (b : Bool) (n m : Next) → Ends n → Ends m → Ends (if_then b n m)
@@ -65,7 +64,7 @@ module _ (Q : Refusal → Type 0) where
         over assembly.Steep h = solved_ends s (heard s.cost e)
 
         top : (fresh spent : Bool) (a : Assembly) → Assembles a
-            → Ends (then_solve (if_then fresh (if_then spent (gate.Stop (end.Stopped why.Budget)) (assembled a)) gate.Go) limit tolerance s e)
+            → Ends (then_solve (if_then fresh (if_then spent (Some (Ok why.Budget)) (assembled a)) None) limit tolerance s e)
         top true true a h = stopped s why.Budget
         top true false a h = over a h
         top false spent a h = solved_ends s (heard s.cost e)
@@ -82,5 +81,5 @@ module _ (Q : Refusal → Type 0) where
       play_ends (suc k) n x e = play_ends k (next_of m limit tolerance n x) (held_of m limit tolerance n x) (next_ends n x e)
 
       pub played_refuses : (cost damping : Float) (x : X) (s : State) (r : Refusal)
-          → (played m limit tolerance cost damping x).next ≡ next.Over s (end.Refused r) → Q r
+          → (played m limit tolerance cost damping x).next ≡ next.Over s (Err r) → Q r
       played_refuses cost damping x = play_ends (enough limit) (next.On (begun cost damping)) x (on (begun cost damping))

@@ -1,4 +1,7 @@
 -- A turn by cases: what is shown of each way that a turn can go holds of `after_turn`. Assumes nothing.
+use Rattle.numbers.specs.declared.Refusal.{Refusal}
+use Rattle.decisions.specs.declared.Why.{Why}
+use Rattle.std.specs.Prelude.{None, Ok, Result, Some}
 use mathlib.Core.Path.{◌≡◌, refl, sym, ap, ◌∙◌, subst}
 use mathlib.Core.Bool.{Bool, true, false}
 use Prim.Native.Nat.{ℕ, ◌<◌}
@@ -16,10 +19,7 @@ use Rattle.decisions.specs.declared.Assembly.TheVariants as assembly
 use Rattle.decisions.specs.declared.Raw.{Raw}
 use Rattle.decisions.specs.declared.Raw.TheVariants as raw
 use Rattle.decisions.specs.declared.Outcome.TheVariants as outcome
-use Rattle.decisions.specs.declared.Gate.TheVariants as gate
 use Rattle.decisions.specs.declared.Why.TheVariants as why
-use Rattle.decisions.specs.declared.End.{End}
-use Rattle.decisions.specs.declared.End.TheVariants as end
 use Rattle.decisions.specs.declared.Next.{Next}
 use Rattle.decisions.specs.declared.Next.TheVariants as next
 
@@ -95,23 +95,23 @@ module _ (P : State → Type 0) (Q : State → Type 0) where
         other p q = absurd (subst T (sym q ∙ p) tt)
 
         at : (b : Bool) → s.fresh ≡ b → (c : Bool) → leb limit (iterations s) ≡ c
-            → Both P Q (then_solve (if_then b (if_then c (gate.Stop (end.Stopped why.Budget)) (assembled a)) gate.Go) limit tolerance s e)
+            → Both P Q (then_solve (if_then b (if_then c (Some (Ok why.Budget)) (assembled a)) None) limit tolerance s e)
         at true f true l = k.stopped
         at true f false l = gates a e (leb-false limit (iterations s) l)
         at false f c l = solves (other f) e
 
 -- ---- a turn in two parts, as a loop takes it
 module _ (limit : ℕ) (tolerance : Float) (s : State) where
-  pub turned_stop : (a : Assembly) (e : Raw) (w : End) → passed limit s a ≡ gate.Stop w → after_turn limit tolerance s a e ≡ next.Over s w
+  pub turned_stop : (a : Assembly) (e : Raw) (w : Result Why Refusal) → passed limit s a ≡ Some w → after_turn limit tolerance s a e ≡ next.Over s w
   unfolding after_turn then_solve
   turned_stop a e w q = rw q
 
-  pub turned_go : (a : Assembly) (e : Raw) → passed limit s a ≡ gate.Go → after_turn limit tolerance s a e ≡ solved s limit tolerance (heard s.cost e)
+  pub turned_go : (a : Assembly) (e : Raw) → passed limit s a ≡ None → after_turn limit tolerance s a e ≡ solved s limit tolerance (heard s.cost e)
   unfolding after_turn then_solve
   turned_go a e q = rw q
 
   -- where the same system is solved again, what an assembly comes to does not count
-  pub passed_again : (a : Assembly) → s.fresh ≡ false → passed limit s a ≡ gate.Go
+  pub passed_again : (a : Assembly) → s.fresh ≡ false → passed limit s a ≡ None
   unfolding passed if_then
   passed_again a f = rw f
 

@@ -1,5 +1,6 @@
 -- The run's decisions, what follows each event: document 01, "The solve and the run". Definitions only.
-use Rattle.std.specs.Prelude.{ℕ, ◌+◌, true, false, eqb, leb, Float}
+use Rattle.numbers.specs.declared.Refusal.{Refusal}
+use Rattle.std.specs.Prelude.{ℕ, ◌+◌, true, false, eqb, leb, Float, Err, None, Ok, Option, Result, Some}
 use Rattle.std.specs.Float.Ieee.{lt}
 use Rattle.numbers.specs.Notation.{◌⊟◌, ◌⧄◌, num, if_then}
 use Rattle.numbers.specs.Refusals.{refusal}
@@ -16,9 +17,6 @@ use Rattle.decisions.specs.declared.Outcome.{Outcome}
 use Rattle.decisions.specs.declared.Outcome.TheVariants as outcome
 use Rattle.decisions.specs.declared.Why.{Why}
 use Rattle.decisions.specs.declared.Why.TheVariants as why
-use Rattle.decisions.specs.declared.End.TheVariants as end
-use Rattle.decisions.specs.declared.Gate.{Gate}
-use Rattle.decisions.specs.declared.Gate.TheVariants as gate
 use Rattle.decisions.specs.declared.Next.{Next}
 use Rattle.decisions.specs.declared.Next.TheVariants as next
 
@@ -107,11 +105,11 @@ after_rejected s =
 -- ---- what follows a solve
 
 abbrev pub stop : State → Why → Next
-stop s w = next.Over s (end.Stopped w)
+stop s w = next.Over s (Ok w)
 
 -- failed: above 1e10 is refusal 22, else solve again
 unfoldable pub failing : State → Next
-failing s = if_then (lt lambda_max (increased s.damping)) (next.Over (after_failed s) (end.Refused (refusal 22 0))) (next.On (after_failed s))
+failing s = if_then (lt lambda_max (increased s.damping)) (next.Over (after_failed s) (Err (refusal 22 0))) (next.On (after_failed s))
 
 -- accepted: a relative drop below the tolerance has converged, else to the top
 unfoldable pub accepting : State → Float → Float → Next
@@ -132,19 +130,19 @@ solved s limit tolerance (outcome.Tried (trial.Rejected r)) = rejecting s limit
 
 -- ---- the top, and a turn
 
-unfoldable pub assembled : Assembly → Gate
-assembled (assembly.Refused r) = gate.Stop (end.Refused r)
-assembled assembly.Flat = gate.Stop (end.Stopped why.Gradient)
-assembled assembly.Steep = gate.Go
+unfoldable pub assembled : Assembly → Option (Result Why Refusal)
+assembled (assembly.Refused r) = Some (Err r)
+assembled assembly.Flat = Some (Ok why.Gradient)
+assembled assembly.Steep = None
 
 -- The top, where the system is to be assembled: the iteration limit (Budget), then what the assembly came to. Elsewhere the same system is solved again.
-unfoldable pub passed : ℕ → State → Assembly → Gate
+unfoldable pub passed : ℕ → State → Assembly → Option (Result Why Refusal)
 passed limit s a =
-    if_then s.fresh (if_then (leb limit (iterations s)) (gate.Stop (end.Stopped why.Budget)) (assembled a)) gate.Go
+    if_then s.fresh (if_then (leb limit (iterations s)) (Some (Ok why.Budget)) (assembled a)) None
 
-unfoldable pub then_solve : Gate → ℕ → Float → State → Raw → Next
-then_solve gate.Go limit tolerance s e = solved s limit tolerance (heard s.cost e)
-then_solve (gate.Stop w) limit tolerance s e = next.Over s w
+unfoldable pub then_solve : Option (Result Why Refusal) → ℕ → Float → State → Raw → Next
+then_solve None limit tolerance s e = solved s limit tolerance (heard s.cost e)
+then_solve (Some w) limit tolerance s e = next.Over s w
 
 -- a turn: the top, then a solve
 unfoldable pub after_turn : ℕ → Float → State → Assembly → Raw → Next

@@ -42,7 +42,7 @@ pub enum Reason {
     Numerical(Numerical),
 }
 
-// A trial's answer: accepted with its new cost, or rejected.
+// A trial's answer: accepted with its new cost, or rejected. The Rust's TrialOutcome; a rejection is no failure, so this is no Result.
 #[derive(Clone, Copy)]
 pub enum Trial {
     Accepted(f32),
@@ -83,23 +83,11 @@ pub enum Why {
     Damping,
 }
 
-#[derive(Clone, Copy)]
-pub enum End {
-    Stopped(Why),
-    Refused(Refusal),
-}
-
-// What the top of the run says: go on to a solve, or stop.
-#[derive(Clone, Copy)]
-pub enum Gate {
-    Go,
-    Stop(End),
-}
-
+// A run goes on, or is over: it stopped for a reason, or was refused. Neither is a failure of the other, so this is no Result.
 #[derive(Clone, Copy)]
 pub enum Next {
     On(State),
-    Over(State, End),
+    Over(State, Result<Why, Refusal>),
 }
 
 pub fn increased_damping(damping: f32) -> f32
@@ -166,7 +154,7 @@ pub fn begin(cost: f32, damping: f32) -> State
 pub fn one_more(n: u32) -> u32
     ensures { result ≡ one_more n }
 {
-    if n == 4294967295 { n } else { n + 1 }
+    n.saturating_add(1)
 }
 
 // A + R, which a u32 need not hold.
@@ -190,18 +178,16 @@ pub fn after_failed_solve(s: State) -> Next
 {
     let damping = increased_damping(s.damping);
     let t = State {
-        accepted: s.accepted,
-        rejected: s.rejected,
         failed: one_more(s.failed),
         solves: one_more(s.solves),
         fresh: false,
         damping,
-        cost: s.cost,
+        ..s
     };
     if LAMBDA_MAX < damping {
         Next::Over(
             t,
-            End::Refused(Refusal {
+            Err(Refusal {
                 number: 22,
                 place: 0,
             }),
@@ -215,15 +201,10 @@ pub fn after_small_step(s: State) -> Next
     ensures { result ≡ stop (after_small s) Why.Step }
 {
     let t = State {
-        accepted: s.accepted,
-        rejected: s.rejected,
-        failed: s.failed,
         solves: one_more(s.solves),
-        fresh: s.fresh,
-        damping: s.damping,
-        cost: s.cost,
+        ..s
     };
-    Next::Over(t, End::Stopped(Why::Step))
+    Next::Over(t, Ok(Why::Step))
 }
 
 pub fn after_accepted(s: State, tolerance: f32, new: f32) -> Next
@@ -232,15 +213,14 @@ pub fn after_accepted(s: State, tolerance: f32, new: f32) -> Next
     let change = relative_cost_change(s.cost, new);
     let t = State {
         accepted: one_more(s.accepted),
-        rejected: s.rejected,
-        failed: s.failed,
         solves: one_more(s.solves),
         fresh: true, // the poses are others: their system is to be assembled
         damping: decreased_damping(s.damping),
         cost: new,
+        ..s
     };
     if change < tolerance {
-        Next::Over(t, End::Stopped(Why::Cost))
+        Next::Over(t, Ok(Why::Cost))
     } else {
         Next::On(t)
     }
@@ -251,19 +231,17 @@ pub fn after_rejected(s: State, limit: u32) -> Next
 {
     let damping = increased_damping(s.damping);
     let t = State {
-        accepted: s.accepted,
         rejected: one_more(s.rejected),
-        failed: s.failed,
         solves: one_more(s.solves),
         fresh: false, // the poses are the same, and so is their system
         damping,
-        cost: s.cost,
+        ..s
     };
     if LAMBDA_MAX < damping {
-        return Next::Over(t, End::Stopped(Why::Damping));
+        return Next::Over(t, Ok(Why::Damping));
     }
     if at_limit(t, limit) {
-        return Next::Over(t, End::Stopped(Why::Budget));
+        return Next::Over(t, Ok(Why::Budget));
     }
     Next::On(t)
 }
@@ -283,29 +261,29 @@ pub fn after_solve(s: State, limit: u32, tolerance: f32, o: Outcome) -> Next
 
 // ---- the top, and a turn
 
-pub fn gate_of(a: Assembly) -> Gate
+pub fn gate_of(a: Assembly) -> Option<Result<Why, Refusal>>
     ensures { result ≡ assembled a }
 {
     match a {
-        Assembly::Refused(r) => Gate::Stop(End::Refused(r)),
-        Assembly::Flat => Gate::Stop(End::Stopped(Why::Gradient)),
-        Assembly::Steep => Gate::Go,
+        Assembly::Refused(r) => Some(Err(r)),
+        Assembly::Flat => Some(Ok(Why::Gradient)),
+        Assembly::Steep => None,
     }
 }
 
 // `a` counts only where the system is to be assembled.
-pub fn pass_top(s: State, limit: u32, a: Assembly) -> Gate
+pub fn pass_top(s: State, limit: u32, a: Assembly) -> Option<Result<Why, Refusal>>
     ensures { result ≡ passed limit s a }
 {
     let due = s.fresh;
     if due {
         if at_limit(s, limit) {
-            Gate::Stop(End::Stopped(Why::Budget))
+            Some(Ok(Why::Budget))
         } else {
             gate_of(a)
         }
     } else {
-        Gate::Go
+        None
     }
 }
 
@@ -314,7 +292,7 @@ pub fn turn(s: State, limit: u32, tolerance: f32, a: Assembly, e: Raw) -> Next
 {
     let cost = s.cost;
     match pass_top(s, limit, a) {
-        Gate::Stop(w) => Next::Over(s, w),
-        Gate::Go => after_solve(s, limit, tolerance, hear(cost, e)),
+        Some(w) => Next::Over(s, w),
+        None => after_solve(s, limit, tolerance, hear(cost, e)),
     }
 }

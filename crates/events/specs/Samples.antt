@@ -1,5 +1,5 @@
 -- What a sample of document 01 on damping asks, and its answer. Definitions only.
-use Rattle.std.specs.Prelude.{List, [], ◌∷◌, ℕ, zero, suc, eqb, Float}
+use Rattle.std.specs.Prelude.{List, [], ◌∷◌, ℕ, zero, suc, eqb, Float, Err, Ok}
 use Rattle.std.specs.Float.{binary32}
 use Rattle.std.specs.Float.Ieee.{to_bits}
 use Rattle.numbers.specs.Notation.{num, if_then}
@@ -7,7 +7,6 @@ use Rattle.decisions.specs.Damping.{increased, decreased}
 use Rattle.decisions.specs.Run.{begun}
 use Rattle.events.specs.Driven.{driven}
 use Rattle.decisions.specs.declared.Raw.TheVariants as raw
-use Rattle.decisions.specs.declared.End.TheVariants as end
 use Rattle.events.specs.declared.Event.{Event}
 use Rattle.events.specs.declared.Event.TheVariants as event
 use Rattle.decisions.specs.declared.Next.{Next}
@@ -29,8 +28,8 @@ failures (suc n) = event.Solved raw.Failed ∷ failures n
 
 -- the failed solves, where these had the run refused by number 22
 abbrev pub refused_after : Next → ℕ
-refused_after (next.Over s (end.Refused r)) = if_then (eqb r.number 22) s.failed 0
-refused_after (next.Over s (end.Stopped w)) = 0
+refused_after (next.Over s (Err r)) = if_then (eqb r.number 22) s.failed 0
+refused_after (next.Over s (Ok w)) = 0
 refused_after (next.On s) = 0
 
 -- the damping's bits, or the number of solves

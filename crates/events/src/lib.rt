@@ -5,7 +5,7 @@ ghost use Rattle.std.specs.Prelude.{◌≡◌};
 ghost use Rattle.decisions.specs.Run.{begun};
 ghost use Rattle.events.specs.Driven.{event_of, events_of, settled, after_event, driven};
 
-use decisions::{Assembly, End, Next, Numerical, Raw, Why};
+use decisions::{Assembly, Next, Numerical, Raw, Why};
 use numbers::Refusal;
 
 // What a prepared list tells: how an assembly ended, or what a solve came to.
@@ -15,7 +15,7 @@ pub enum Event {
     Solved(Raw),
 }
 
-// Events by number, as a list has them; any other number is a trial whose cost could not be had.
+// Events by number, as C hands them over (`pgo_decide`); any other number is a trial whose cost could not be had, so none is left to refuse.
 const REFUSED: u32 = 0;
 
 const FLAT: u32 = 1;
@@ -64,7 +64,7 @@ pub fn settle(limit: u32, n: Next) -> Next
     };
     let fresh = s.fresh;
     if fresh & decisions::at_limit(s, limit) {
-        Next::Over(s, End::Stopped(Why::Budget))
+        Next::Over(s, Ok(Why::Budget))
     } else {
         n
     }
@@ -102,11 +102,9 @@ pub fn drive(
     ensures { result ≡ driven limit tolerance (Next.On (begun cost damping)) (events_of events.now prices.now) }
 {
     let mut n = Next::On(decisions::begin(cost, damping));
-    let mut i = 0;
-    while i < events.len() {
-        let v = event_of(events[i], numbers::at32(prices, i));
+    for i in 0..events.len() {
+        let v = event_of(events[i], numbers::at(prices, i));
         n = after_event(limit, tolerance, settle(limit, n), v);
-        i += 1;
     }
     settle(limit, n)
 }

@@ -4,10 +4,8 @@ use lib.Ieee.{Float}
 use Rattle.rotations.specs.Rotation.{wide}
 use Rattle.exp_log.specs.ExpLog.{upright, halved, angle_of, unbend, log_wide}
 use Rattle.exp_log.specs.LogParts.{angle_from, log_turn, log_at}
-use Rattle.rotations.specs.declared.Vec3.{Vec3}
-use Rattle.rotations.specs.declared.Quat.{Quat}
+use Rattle.rotations.specs.Formats.{Vec3, Quat, Transform}
 use Rattle.exp_log.specs.declared.LogTurn.{LogTurn}
-use Rattle.rotations.specs.declared.Transform.{Transform}
 
 pub log_parts : (a : Transform) → log_at (log_turn (wide a).q) (wide a).t ≡ log_wide a
 unfolding log_at log_turn log_wide

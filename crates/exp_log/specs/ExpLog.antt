@@ -1,20 +1,13 @@
 -- exp and log (document 01, "Rotation arithmetic"), all in f64; a transform or a twist is narrowed once, at the end.
-use Rattle.std.specs.Prelude.{ℕ, zero, suc, List, [], ◌∷◌, Float}
+use Rattle.std.specs.Prelude.{ℕ, zero, suc, List, [], ◌∷◌, Float, None, Option, Some}
 use Rattle.std.specs.Float.Ieee.{neg, lt}
 use Rattle.numbers.specs.Notation.{◌⊕◌, ◌⊖◌, ◌⊗◌, ◌⊘◌, num, ratio, if_then}
 use Rattle.rounding.specs.Rounding.{narrowed}
 use Rattle.roots.specs.Roots.{root64}
 use Rattle.rotations.specs.Rotation.{vec, dot, over, cross, plus, times, wide, finished}
-use Rattle.rotations.specs.declared.Vec3.{Vec3}
-use Rattle.rotations.specs.declared.Quat.{Quat}
-use Rattle.rotations.specs.declared.Transform.{Transform}
-use Rattle.exp_log.specs.declared.Twist.{Twist}
-use Rattle.exp_log.specs.declared.WideTwist.{WideTwist}
+use Rattle.rotations.specs.Formats.{Vec3, Quat, Transform}
+use Rattle.exp_log.specs.Formats.{Twist, WideTwist}
 use Rattle.exp_log.specs.declared.Bend.{Bend}
-use Rattle.exp_log.specs.declared.Turn.{Turn}
-use Rattle.exp_log.specs.declared.Turn.TheVariants as turn
-use Rattle.exp_log.specs.declared.Moved.{Moved}
-use Rattle.exp_log.specs.declared.Moved.TheVariants as moved
 
 -- v and w as a quaternion, and its v
 abbrev pub quat : Vec3 → Float → Quat
@@ -82,24 +75,24 @@ unfoldable pub bent : Vec3 → Float → Float → Vec3 → Vec3
 bent ω k l a = plus (plus a (times k (cross ω a))) (times l (cross ω (cross ω a)))
 
 -- how a definition goes on with an exp, of a turn alone or of a twist: next, or failed where it is past reach
-unfoldable pub turning : {A : Type 0} → Turn → (Quat → A) → A → A
-turning (turn.By q) next failed = next q
-turning turn.TooFar next failed = failed
+unfoldable pub turning : {A : Type 0} → Option Quat → (Quat → A) → A → A
+turning (Some q) next failed = next q
+turning None next failed = failed
 
-unfoldable pub moving : {A : Type 0} → Moved → (Transform → A) → A → A
-moving (moved.To e) next failed = next e
-moving moved.TooFar next failed = failed
+unfoldable pub moving : {A : Type 0} → Option Transform → (Transform → A) → A → A
+moving (Some e) next failed = next e
+moving None next failed = failed
 
 -- exp of a turn alone stays f64: fails if ω·ω > 4096, and for nothing else (T7)
-unfoldable pub turn_of : Vec3 → Turn
-turn_of ω = if_then (lt (num 4096) (dot ω ω)) turn.TooFar (turn.By (turn_by ω))
+unfoldable pub turn_of : Vec3 → Option Quat
+turn_of ω = if_then (lt (num 4096) (dot ω ω)) None (Some (turn_by ω))
 
 -- exp of a twist, translation ρ and turn ω: a turn by ω, and the translation (I + B[ω] + C[ω]²) ρ
 unfoldable pub moved_by : Vec3 → Vec3 → Quat → Transform
 moved_by ρ ω q = let k = bend q ω in finished (record { q = q; t = bent ω k.b k.c ρ })
 
-unfoldable pub exp_of : Vec3 → Vec3 → Moved
-exp_of ρ ω = turning (turn_of ω) (λ q. moved.To (moved_by ρ ω q)) moved.TooFar
+unfoldable pub exp_of : Vec3 → Vec3 → Option Transform
+exp_of ρ ω = turning (turn_of ω) (λ q. Some (moved_by ρ ω q)) None
 
 -- ---- log
 

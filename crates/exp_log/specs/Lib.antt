@@ -1,3 +1,4 @@
+pub mod Formats
 pub mod ExpLog
 pub mod LogParts
 pub mod Samples

@@ -4,11 +4,10 @@ use Rattle.std.specs.Float.Ieee.{neg}
 use Rattle.numbers.specs.Notation.{num, ratio}
 use Rattle.rotations.specs.Rotation.{dot, times, over}
 use Rattle.exp_log.specs.ExpLog.{axis, bent, upright, arc_series, angle_of, unbend}
-use Rattle.rotations.specs.declared.Vec3.{Vec3}
-use Rattle.rotations.specs.declared.Quat.{Quat}
-use Rattle.exp_log.specs.declared.WideTwist.{WideTwist}
+use Rattle.rotations.specs.Formats.{Vec3, Quat}
+use Rattle.exp_log.specs.Formats.{WideTwist}
 use Rattle.exp_log.specs.declared.LogTurn.{LogTurn}
-use Rattle.exp_log.specs.declared.LogTurns.{LogTurns}
+use Rattle.exp_log.specs.declared.Both.{Both}
 
 -- ω of a quaternion that was halved three times
 unfoldable pub angle_from : Quat → Vec3
@@ -18,8 +17,8 @@ angle_from h = let a = over (axis h) h.w in times (arc_series (neg (dot a a))) (
 unfoldable pub log_turn : Quat → LogTurn
 log_turn q = let u = upright q in let ω = angle_of u in record { w = ω; d = unbend u ω }
 
-unfoldable pub log_turns : Quat → Quat → LogTurns
-log_turns p q = record { first = log_turn p; second = log_turn q }
+unfoldable pub log_turns : Quat → Quat → Both LogTurn
+log_turns p q = record { ahead = log_turn p; behind = log_turn q }
 
 -- the log with the translation t
 unfoldable pub log_at : LogTurn → Vec3 → WideTwist

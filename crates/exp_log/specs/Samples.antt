@@ -1,17 +1,11 @@
 -- Worked examples, computed by antt. Document 01's own, those marked *, stand in StarredSamples of sparse_pgo. Assumes nothing.
-use Rattle.std.specs.Prelude.{◌≡◌, refl, List, [], ◌∷◌, map, ℕ, ◌+◌, Float}
+use Rattle.std.specs.Prelude.{◌≡◌, refl, List, [], ◌∷◌, map, ℕ, ◌+◌, Float, None, Option, Some}
 use Rattle.std.specs.Float.{binary32}
 use Rattle.std.specs.Float.Ieee.{of_bits, to_bits, add, sub, mul, div, neg, lt, le}
 use Rattle.numbers.specs.Notation.{ratio, if_then}
 use Rattle.rounding.specs.Rounding.{rounded}
 use Rattle.roots.specs.Roots.{rooted}
-use Rattle.rotations.specs.declared.Vec3.{Vec3}
-use Rattle.rotations.specs.declared.Vec3F32.{Vec3F32}
-use Rattle.rotations.specs.declared.QuatF32.{QuatF32}
-use Rattle.rotations.specs.declared.Mat3F32.{Mat3F32}
-use Rattle.rotations.specs.declared.Transform.{Transform}
-use Rattle.exp_log.specs.declared.Moved.{Moved}
-use Rattle.exp_log.specs.declared.Moved.TheVariants as moved
+use Rattle.rotations.specs.Formats.{Vec3, Vec3F32, QuatF32, Mat3F32, Transform}
 use Rattle.rotations.specs.Rotation.{vec, dot, cross, plus, minus, times, matrix_of, turned, conjugate, quat_product, wide, finished, product, inverse, over}
 use Rattle.rotations.specs.FromMatrix.{halved_by, by_rule, quat_of_matrix}
 use Rattle.exp_log.specs.ExpLog.{series, squared, squarings, sine_series, cosine_series, turn_by, small_bend, large_bend, bend, bent, turning}
@@ -77,9 +71,9 @@ four_of q rest = to_bits binary32 q.x ∷ to_bits binary32 q.y ∷ to_bits binar
 abbrev seven_of : Transform → List ℕ
 seven_of a = four_of a.q (three_of a.t [])
 
-abbrev if_moved : Moved → List ℕ
-if_moved (moved.To a) = seven_of a
-if_moved moved.TooFar = []
+abbrev if_moved : Option Transform → List ℕ
+if_moved (Some a) = seven_of a
+if_moved None = []
 
 unfoldable pub answer : Case → List ℕ
 answer (log a) = three_of (log_of a).t (three_of (log_of a).r [])

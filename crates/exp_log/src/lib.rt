@@ -7,20 +7,13 @@ ghost use Rattle.exp_log.specs.ExpLog.{small_bend, large_bend, bend, bent, moved
 ghost use Rattle.exp_log.specs.ExpLog.{upright, halved, arc_series, angle_of, unbend, log_wide, narrowed_twist, log_of};
 ghost use Rattle.exp_log.specs.LogParts.{angle_from, log_turn, log_turns, log_at};
 
-use rotations::{Quat, Rigid, Transform, Vec3, Vec3F32};
+use rotations::{Quat, Transform, Vec3};
 
-// A translation and a turn, in f32: a step, a residual.
+// A translation and a turn: in f32 a step or a residual, in f64 the same before it is narrowed.
 #[derive(Clone, Copy)]
-pub struct Twist {
-    pub t: Vec3F32,
-    pub r: Vec3F32,
-}
-
-// The same in f64, before it is narrowed.
-#[derive(Clone, Copy)]
-pub struct WideTwist {
-    pub t: Vec3,
-    pub r: Vec3,
+pub struct Twist<T> {
+    pub t: Vec3<T>,
+    pub r: Vec3<T>,
 }
 
 // B and C of document 01.
@@ -33,34 +26,20 @@ pub struct Bend {
 // What a quaternion gives of a log: ω and D of document 01.
 #[derive(Clone, Copy)]
 pub struct LogTurn {
-    pub w: Vec3,
+    pub w: Vec3<f64>,
     pub d: f64,
 }
 
-// Those of two quaternions.
+// Two of a kind, as of the probes ahead and behind.
 #[derive(Clone, Copy)]
-pub struct LogTurns {
-    pub first: LogTurn,
-    pub second: LogTurn,
-}
-
-// exp of a turn: its quaternion, or past the reach of exp.
-#[derive(Clone, Copy)]
-pub enum Turn {
-    By(Quat),
-    TooFar,
-}
-
-// exp of a twist: its transform, or past the reach of exp.
-#[derive(Clone, Copy)]
-pub enum Moved {
-    To(Transform),
-    TooFar,
+pub struct Both<T> {
+    pub ahead: T,
+    pub behind: T,
 }
 
 // ---- exp
 
-fn axis_of(q: Quat) -> Vec3
+fn axis_of(q: Quat<f64>) -> Vec3<f64>
     ensures { result ≡ axis q }
 {
     Vec3 {
@@ -71,7 +50,7 @@ fn axis_of(q: Quat) -> Vec3
 }
 
 // A turn twice as far.
-fn square(q: Quat) -> Quat
+fn square(q: Quat<f64>) -> Quat<f64>
     ensures { result ≡ squared q }
 {
     let v = axis_of(q);
@@ -84,7 +63,7 @@ fn square(q: Quat) -> Quat
     }
 }
 
-fn seven_times(q: Quat) -> Quat
+fn seven_times(q: Quat<f64>) -> Quat<f64>
     ensures { result ≡ squarings 7 q }
 {
     let mut p = q;
@@ -134,7 +113,7 @@ fn cosine_series(t: f64) -> f64
 }
 
 // The turn by w, with no test of its length.
-pub fn turn_by(w: Vec3) -> Quat
+pub fn turn_by(w: Vec3<f64>) -> Quat<f64>
     ensures { result ≡ turn_by w }
 {
     let h = rotations::vec_over(w, 256.0);
@@ -160,7 +139,7 @@ fn small_bend(s: f64) -> Bend
     }
 }
 
-fn large_bend(s: f64, q: Quat, w: Vec3) -> Bend
+fn large_bend(s: f64, q: Quat<f64>, w: Vec3<f64>) -> Bend
     ensures { result ≡ large_bend s q w }
 {
     let theta = roots::sqrt64(s);
@@ -171,7 +150,7 @@ fn large_bend(s: f64, q: Quat, w: Vec3) -> Bend
     }
 }
 
-fn bend_of(q: Quat, w: Vec3) -> Bend
+fn bend_of(q: Quat<f64>, w: Vec3<f64>) -> Bend
     ensures { result ≡ bend q w }
 {
     let s = rotations::dot_of(w, w);
@@ -183,7 +162,7 @@ fn bend_of(q: Quat, w: Vec3) -> Bend
 }
 
 // a by I + k[w] + l[w]².
-fn bent_by(w: Vec3, k: f64, l: f64, a: Vec3) -> Vec3
+fn bent_by(w: Vec3<f64>, k: f64, l: f64, a: Vec3<f64>) -> Vec3<f64>
     ensures { result ≡ bent w k l a }
 {
     let once = rotations::cross_of(w, a);
@@ -193,40 +172,37 @@ fn bent_by(w: Vec3, k: f64, l: f64, a: Vec3) -> Vec3
     )
 }
 
-// exp of a turn alone, in f64.
-pub fn turn_of(w: Vec3) -> Turn
+// exp of a turn alone, in f64; none past the reach of exp.
+pub fn turn_of(w: Vec3<f64>) -> Option<Quat<f64>>
     ensures { result ≡ turn_of w }
 {
     if rotations::dot_of(w, w) > 4096.0 {
-        return Turn::TooFar;
+        return None;
     }
-    Turn::By(turn_by(w))
+    Some(turn_by(w))
 }
 
-fn moved_by(t: Vec3, w: Vec3, q: Quat) -> Transform
+fn moved_by(t: Vec3<f64>, w: Vec3<f64>, q: Quat<f64>) -> Transform<f32>
     ensures { result ≡ moved_by t w q }
 {
     let k = bend_of(q, w);
-    rotations::finish(Rigid {
+    rotations::finish(Transform {
         q,
         t: bent_by(w, k.b, k.c, t),
     })
 }
 
-// exp of the twist of translation t and turn w.
-pub fn exp(t: Vec3, w: Vec3) -> Moved
+// exp of the twist of translation t and turn w; none past the reach of exp.
+pub fn exp(t: Vec3<f64>, w: Vec3<f64>) -> Option<Transform<f32>>
     ensures { result ≡ exp_of t w }
 {
-    let Turn::By(q) = turn_of(w) else {
-        return Moved::TooFar;
-    };
-    Moved::To(moved_by(t, w, q))
+    Some(moved_by(t, w, turn_of(w)?))
 }
 
 // ---- log
 
 // The same turn with w at least 0.
-fn upright_of(q: Quat) -> Quat
+fn upright_of(q: Quat<f64>) -> Quat<f64>
     ensures { result ≡ upright q }
 {
     if q.w < 0.0 {
@@ -242,7 +218,7 @@ fn upright_of(q: Quat) -> Quat
 }
 
 // Half the angle.
-fn half(q: Quat) -> Quat
+fn half(q: Quat<f64>) -> Quat<f64>
     ensures { result ≡ halved q }
 {
     let v = axis_of(q);
@@ -282,7 +258,7 @@ fn arc_series(t: f64) -> f64
 }
 
 // The turn of a quaternion halved three times: (16 a) Σ(−a·a)ᵏ/(2k+1), a = v/w.
-fn angle_from(h: Quat) -> Vec3
+fn angle_from(h: Quat<f64>) -> Vec3<f64>
     ensures { result ≡ angle_from h }
 {
     let a = rotations::vec_over(axis_of(h), h.w);
@@ -293,7 +269,7 @@ fn angle_from(h: Quat) -> Vec3
 }
 
 // The turn of an upright quaternion, as angle times axis.
-fn angle_of(q: Quat) -> Vec3
+fn angle_of(q: Quat<f64>) -> Vec3<f64>
     ensures { result ≡ angle_of q }
 {
     angle_from(half(half(half(q))))
@@ -304,7 +280,7 @@ const TWELFTH: f64 = 1.0 / 12.0;
 const INV_30240: f64 = 1.0 / 30240.0;
 
 // D of document 01.
-fn unbend_of(q: Quat, w: Vec3) -> f64
+fn unbend_of(q: Quat<f64>, w: Vec3<f64>) -> f64
     ensures { result ≡ unbend q w }
 {
     let s = rotations::dot_of(w, w);
@@ -316,7 +292,7 @@ fn unbend_of(q: Quat, w: Vec3) -> f64
 }
 
 // ω and D, from a quaternion alone.
-pub fn log_turn(q: Quat) -> LogTurn
+pub fn log_turn(q: Quat<f64>) -> LogTurn
     ensures { result ≡ log_turn q }
 {
     let u = upright_of(q);
@@ -328,7 +304,7 @@ pub fn log_turn(q: Quat) -> LogTurn
 }
 
 // Those of p and of q, a step of the one and a step of the other in turn: the roots of a log wait for each other, those of two don't.
-pub fn log_turns(p: Quat, q: Quat) -> LogTurns
+pub fn log_turns(p: Quat<f64>, q: Quat<f64>) -> Both<LogTurn>
     ensures { result ≡ log_turns p q }
 {
     let a = upright_of(p);
@@ -339,12 +315,12 @@ pub fn log_turns(p: Quat, q: Quat) -> LogTurns
     let b2 = half(b1);
     let w = angle_from(half(a2));
     let v = angle_from(half(b2));
-    LogTurns {
-        first: LogTurn {
+    Both {
+        ahead: LogTurn {
             w,
             d: unbend_of(a, w),
         },
-        second: LogTurn {
+        behind: LogTurn {
             w: v,
             d: unbend_of(b, v),
         },
@@ -352,34 +328,34 @@ pub fn log_turns(p: Quat, q: Quat) -> LogTurns
 }
 
 // The log of a transform whose translation is t, by ω and D of its quaternion.
-pub fn log_at(k: LogTurn, t: Vec3) -> WideTwist
+pub fn log_at(k: LogTurn, t: Vec3<f64>) -> Twist<f64>
     ensures { result ≡ log_at k t }
 {
     let w = k.w;
-    WideTwist {
+    Twist {
         t: bent_by(w, -0.5, k.d, t),
         r: w,
     }
 }
 
 // log before its six numbers are narrowed.
-fn log_wide(a: Transform) -> WideTwist
+fn log_wide(a: Transform<f32>) -> Twist<f64>
     ensures { result ≡ log_wide a }
 {
     let u = rotations::widened(a);
     log_at(log_turn(u.q), u.t)
 }
 
-pub fn narrow_twist(d: WideTwist) -> Twist
+pub fn narrow_twist(d: Twist<f64>) -> Twist<f32>
     ensures { result ≡ narrowed_twist d }
 {
     Twist {
-        t: Vec3F32 {
+        t: Vec3 {
             x: rounding::narrow(d.t.x),
             y: rounding::narrow(d.t.y),
             z: rounding::narrow(d.t.z),
         },
-        r: Vec3F32 {
+        r: Vec3 {
             x: rounding::narrow(d.r.x),
             y: rounding::narrow(d.r.y),
             z: rounding::narrow(d.r.z),
@@ -387,7 +363,7 @@ pub fn narrow_twist(d: WideTwist) -> Twist
     }
 }
 
-pub fn log(a: Transform) -> Twist
+pub fn log(a: Transform<f32>) -> Twist<f32>
     ensures { result ≡ log_of a }
 {
     narrow_twist(log_wide(a))

@@ -1,6 +1,7 @@
 -- What is told of a scan whose loops were closed, and a float's text in the lent bytes. Assumes nothing.
 use Prim.Native.Nat.{ℕ, ◌≤◌}
 use native.Mathlib.Omega.{arith}
+use Rattle.std.specs.Prelude.{Err, Ok, Result}
 use mathlib.Core.Path.{◌≡◌, refl, sym, ap, ◌∙◌}
 use mathlib.Core.Bool.{true, ◌||◌}
 use mathlib.Core.List.{List, ◌++◌}
@@ -19,8 +20,6 @@ use Rattle.scans.specs.Scans.{Scan}
 use Rattle.pose_graph.specs.Closing.{loops_closed}
 use Rattle.pose_graph.specs.declared.PgoConfig.{PgoConfig}
 use Rattle.pose_graph.specs.declared.PgoResult.{PgoResult}
-use Rattle.pose_graph.specs.declared.Closed.{Closed}
-use Rattle.pose_graph.specs.declared.Closed.TheVariants as closed
 use Rattle.line.specs.Text.{empty, with_text}
 use Rattle.line.specs.FloatText.{float_text}
 use Rattle.line.specs.declared.Line.{Line}
@@ -38,27 +37,27 @@ fit_closing g a c m h =
     let two = and_second (eqb a 9) _ all in
     (eqb-true _ _ (and_first (eqb a 9) _ all), eqb-true _ _ (and_first (eqb c 2) _ two), eqb-true _ _ (and_second (eqb c 2) _ two))
 
-pub nine_long : (a : Closed) → length (closed_nine a) ≡ 9
-nine_long (closed.Ran x) = refl
-nine_long (closed.Refused r) = refl
+pub nine_long : (a : Result PgoResult Refusal) → length (closed_nine a) ≡ 9
+nine_long (Ok x) = refl
+nine_long (Err r) = refl
 
 -- nine numbers and, of a scan whose run was joined, costs and measures, each copied-as over what was found
-module _ (a : Closed) (found : List ℕ) (costs measures : List Float) {nine last : List ℕ}
+module _ (a : Result PgoResult Refusal) (found : List ℕ) (costs measures : List Float) {nine last : List ℕ}
     (h : length found ≡ 9) (e : nine ≡ closed_nine a) (p : last ≡ copied nine found) where
   whole : last ≡ closed_nine a
   whole = copied_as (closed_nine a) found e (h ∙ sym (nine_long a)) p
 
-  pub closed_ran : {x : PgoResult} {two c four m : List Float} → a ≡ closed.Ran x → length costs ≡ 2 → two ≡ joined_costs x.run → c ≡ copied two costs
+  pub closed_ran : {x : PgoResult} {two c four m : List Float} → a ≡ Ok x → length costs ≡ 2 → two ≡ joined_costs x.run → c ≡ copied two costs
       → length measures ≡ 4 → four ≡ measures_four x.measures → m ≡ copied four measures → (0, last, c, m) ≡ closed_told costs measures a
   closed_ran {x} g k t q k4 f s = rw (whole, copied_as (joined_costs x.run) costs t k q, copied_as (measures_four x.measures) measures f k4 s, g)
 
-  pub closed_refused : {r : Refusal} → a ≡ closed.Refused r → (r.number, last, costs, measures) ≡ closed_told costs measures a
+  pub closed_refused : {r : Refusal} → a ≡ Err r → (r.number, last, costs, measures) ≡ closed_told costs measures a
   closed_refused g = rw (whole, g)
 
 abbrev config_of : Float → Settings → Manifold → PgoConfig
 config_of weight set m = record { loop_edge_weight = weight; settings = set; manifold = m }
 
-pub closed_told_lem : (weight : Float) (set : Settings) (g : List Float) (s : Scan) (l : LentScan) {m : Manifold} {a : Closed} {w32 w64 original out : List Float}
+pub closed_told_lem : (weight : Float) (set : Settings) (g : List Float) (s : Scan) (l : LentScan) {m : Manifold} {a : Result PgoResult Refusal} {w32 w64 original out : List Float}
     {r : ℕ} {nine : List ℕ} {costs measures : List Float}
     → m ≡ gravity_of g
     → record { answer = a; work32 = w32; work64 = w64; original = original; out = out }

@@ -1,4 +1,5 @@
 -- What is told of a run, and that the counts of the decisions fit. Assumes nothing.
+use Rattle.std.specs.Prelude.{Err, Ok, Result}
 use mathlib.Core.Path.{◌≡◌, refl, sym, ap, ◌∙◌}
 use mathlib.Core.Bool.{true}
 use mathlib.Core.List.{List}
@@ -9,7 +10,6 @@ use lib.Dec.{T, eqb}
 use lib.ListN.{length}
 use lib.Ieee.{Float, binary32, fits}
 use Rattle.numbers.specs.Refusals.{verdict}
-use Rattle.numbers.specs.declared.Verdict.TheVariants.{Fine}
 use Rattle.numbers.specs.declared.Refusal.{Refusal}
 use Rattle.numbers.proofs.Tests.{and_first, and_second}
 use Rattle.slices.specs.Slices.{copied}
@@ -24,8 +24,6 @@ use Rattle.events.specs.declared.Event.{Event}
 use Rattle.decisions.specs.declared.Next.TheVariants as next
 use Rattle.events.proofs.Demands.{demand_three}
 use Rattle.sparse_pgo.specs.Optimize.{optimized}
-use Rattle.sparse_pgo.specs.declared.Answer.{Answer}
-use Rattle.sparse_pgo.specs.declared.Answer.TheVariants as answer
 use Rattle.sparse_pgo.specs.declared.Joined.{Joined}
 use Rattle.sparse_pgo.proofs.Looping.{not_above}
 use Rattle.telling.specs.Telling.{joined_costs, answer_eight}
@@ -38,24 +36,24 @@ fit_run a c h = (eqb-true _ _ (and_first (eqb a 8) _ h), eqb-true _ _ (and_secon
 pub fit_decide : (a c : ℕ) (events : List ℕ) (prices : List Float) → fits_decide a c events prices ≡ true → (a ≡ 8) × (c ≡ 2)
 fit_decide a c events prices h = (eqb-true _ _ (and_first (eqb a 8) _ h), eqb-true _ _ (and_first (eqb c 2) _ (and_second (eqb a 8) _ h)))
 
-pub eight_long : (a : Answer) → length (answer_eight a) ≡ 8
-eight_long (answer.Joined j) = refl
-eight_long (answer.Refused r) = refl
+pub eight_long : (a : Result Joined Refusal) → length (answer_eight a) ≡ 8
+eight_long (Ok j) = refl
+eight_long (Err r) = refl
 
 -- the eight numbers and, of a run that was joined, the costs, each copied-as over what was found
-module _ (a : Answer) (found : List ℕ) (costs : List Float) {eight last : List ℕ} (h : length found ≡ 8) (e : eight ≡ answer_eight a)
+module _ (a : Result Joined Refusal) (found : List ℕ) (costs : List Float) {eight last : List ℕ} (h : length found ≡ 8) (e : eight ≡ answer_eight a)
     (p : last ≡ copied eight found) where
   whole : last ≡ answer_eight a
   whole = copied_as (answer_eight a) found e (h ∙ sym (eight_long a)) p
 
-  pub told_joined : {j : Joined} {two c : List Float} → a ≡ answer.Joined j → length costs ≡ 2 → two ≡ joined_costs j → c ≡ copied two costs
+  pub told_joined : {j : Joined} {two c : List Float} → a ≡ Ok j → length costs ≡ 2 → two ≡ joined_costs j → c ≡ copied two costs
       → (0, last, c) ≡ told costs a
   told_joined {j} g k t q = rw (whole, copied_as (joined_costs j) costs t k q, g)
 
-  pub told_refused : {r : Refusal} → a ≡ answer.Refused r → (r.number, last, costs) ≡ told costs a
+  pub told_refused : {r : Refusal} → a ≡ Err r → (r.number, last, costs) ≡ told costs a
   told_refused g = rw (whole, g)
 
-pub ran_told : (i : Input) (l : LentRun) {a : Answer} {w32 w64 out : List Float} {r : ℕ} {eight : List ℕ} {costs : List Float}
+pub ran_told : (i : Input) (l : LentRun) {a : Result Joined Refusal} {w32 w64 out : List Float} {r : ℕ} {eight : List ℕ} {costs : List Float}
     → record { answer = a; work32 = w32; work64 = w64; out = out } ≡ optimized i l.work32 l.work64 l.out
     → (r, eight, costs) ≡ told l.costs a
     → (r, lists w32 w64 out eight costs) ≡ ran_with l (optimized i l.work32 l.work64 l.out)
@@ -63,7 +61,7 @@ ran_told i l {a} {w32} {w64} {out} e t =
     ap (λ (z : ℕ × List ℕ × List Float). (z.0, lists w32 w64 out z.1 z.2)) t ∙ ap (ran_with l) e
 
 -- A + R fits a u32: it is at most the limit
-pub few_iterations : (set : Settings) (cost : Float) (vs : List Event) → T (fits binary32 set.damping) → verdict (setting_rows set) ≡ Fine
+pub few_iterations : (set : Settings) (cost : Float) (vs : List Event) → T (fits binary32 set.damping) → verdict (setting_rows set) ≡ Ok tt
     → iterations (state_of (driven set.limit set.cost_tolerance (next.On (begun cost set.damping)) vs)) < 4294967296
 few_iterations set cost vs f e =
     let p = passed_settings set e in

@@ -1,17 +1,16 @@
 -- What the exported closing of a scan's loops gives back and writes, and a float's text: document 02, Wish 2. A slice of another length than named gets
 -- 4294967295 back, and nothing is changed. Definitions only.
-use Rattle.std.specs.Prelude.{ℕ, List, ◌++◌, eqb, length, drop, Float}
+use Rattle.pose_graph.specs.declared.PgoResult.{PgoResult}
+use Rattle.numbers.specs.declared.Refusal.{Refusal}
+use Rattle.sparse_pgo.specs.declared.Joined.{Joined}
+use Rattle.std.specs.Prelude.{ℕ, List, ◌++◌, eqb, length, drop, Float, Err, Ok, Result}
 use Rattle.numbers.specs.Notation.{if_then}
 use Rattle.graph.specs.declared.Manifold.{Manifold}
 use Rattle.graph.specs.declared.Manifold.TheVariants.{Se3, Gravity}
 use Rattle.rows.specs.declared.Settings.{Settings}
-use Rattle.sparse_pgo.specs.declared.Answer.{Answer}
-use Rattle.sparse_pgo.specs.declared.Answer.TheVariants as answer
 use Rattle.scans.specs.Scans.{Scan}
 use Rattle.pose_graph.specs.Closing.{Closing, loops_closed}
 use Rattle.pose_graph.specs.declared.PgoConfig.{PgoConfig}
-use Rattle.pose_graph.specs.declared.Closed.{Closed}
-use Rattle.pose_graph.specs.declared.Closed.TheVariants as closed
 use Rattle.line.specs.FloatText.{float_text}
 use Rattle.telling.specs.Telling.{judged_nine, refused_nine, measures_four, fits_closing}
 use Rattle.exports.specs.Layers.{unfit_number, three}
@@ -38,21 +37,21 @@ unfoldable pub gravity_of : List Float → Manifold
 gravity_of g = if_then (eqb (length g) 0) Se3 (Gravity (three g))
 
 -- the run's answer in it
-abbrev pub run_answer : Closed → Answer
-run_answer (closed.Ran x) = answer.Joined x.run
-run_answer (closed.Refused r) = answer.Refused r
+abbrev pub run_answer : Result PgoResult Refusal → Result Joined Refusal
+run_answer (Ok x) = Ok x.run
+run_answer (Err r) = Err r
 
-abbrev pub closed_nine : Closed → List ℕ
-closed_nine (closed.Ran x) = judged_nine x.run x.usable
-closed_nine (closed.Refused r) = refused_nine r
+abbrev pub closed_nine : Result PgoResult Refusal → List ℕ
+closed_nine (Ok x) = judged_nine x.run x.usable
+closed_nine (Err r) = refused_nine r
 
 -- the four measures, as found where refused
-abbrev pub closed_measures : List Float → Closed → List Float
-closed_measures found (closed.Ran x) = measures_four x.measures
-closed_measures found (closed.Refused r) = found
+abbrev pub closed_measures : List Float → Result PgoResult Refusal → List Float
+closed_measures found (Ok x) = measures_four x.measures
+closed_measures found (Err r) = found
 
 -- the number given back; the run's eight numbers, then whether it is usable; its costs; the measures
-abbrev pub closed_told : List Float → List Float → Closed → ℕ × List ℕ × List Float × List Float
+abbrev pub closed_told : List Float → List Float → Result PgoResult Refusal → ℕ × List ℕ × List Float × List Float
 closed_told costs measures a = (number_of (run_answer a), closed_nine a, costs_of costs (run_answer a), closed_measures measures a)
 
 abbrev pub closed_with : LentScan → Closing → ℕ × LentScan

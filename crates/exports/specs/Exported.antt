@@ -1,11 +1,11 @@
 -- What the exported runs give back and write: a run on either manifold, the decisions over a prepared list, an assembly alone. A slice of another length than
 -- named gets 4294967295 back, and nothing is changed. Definitions only.
-use Rattle.std.specs.Prelude.{ℕ, Bool, ◌&&◌, ◌||◌, List, eqb, leb, length, get_or, Float}
+use Rattle.numbers.specs.declared.Refusal.{Refusal}
+use Rattle.sparse_pgo.specs.declared.Joined.{Joined}
+use Rattle.std.specs.Prelude.{ℕ, Bool, ◌&&◌, ◌||◌, List, eqb, leb, length, get_or, Float, Err, None, Ok, Option, Result, Some}
 use Rattle.numbers.specs.Notation.{if_then}
 use Rattle.numbers.specs.Walks.{every}
-use Rattle.numbers.specs.Refusals.{verdict}
-use Rattle.numbers.specs.declared.Verdict.{Verdict}
-use Rattle.numbers.specs.declared.Verdict.TheVariants as verdict
+use Rattle.numbers.specs.Refusals.{verdict, Verdict}
 use Rattle.checks.specs.Input.{Input, lent}
 use Rattle.rows.specs.Tests.{setting_rows}
 use Rattle.graph.specs.declared.Manifold.{Manifold}
@@ -19,26 +19,22 @@ use Rattle.decisions.specs.declared.Next.TheVariants as next
 use Rattle.normal_system.specs.NormalSystem.{assembling, system_of}
 use Rattle.sparse_pgo.specs.Parts.{answer_of}
 use Rattle.sparse_pgo.specs.Optimize.{After, optimized}
-use Rattle.sparse_pgo.specs.declared.Answer.{Answer}
-use Rattle.sparse_pgo.specs.declared.Answer.TheVariants as answer
-use Rattle.exports.specs.declared.Decided.{Decided}
-use Rattle.exports.specs.declared.Decided.TheVariants as decision
 use Rattle.telling.specs.Telling.{joined_costs, answer_eight}
 use Rattle.exports.specs.Layers.{unfit_number, three}
 
 -- ---- what is told of an answer
 
-abbrev pub number_of : Answer → ℕ
-number_of (answer.Joined j) = 0
-number_of (answer.Refused r) = r.number
+abbrev pub number_of : Result Joined Refusal → ℕ
+number_of (Ok j) = 0
+number_of (Err r) = r.number
 
 -- both costs; as found where refused
-abbrev pub costs_of : List Float → Answer → List Float
-costs_of found (answer.Joined j) = joined_costs j
-costs_of found (answer.Refused r) = found
+abbrev pub costs_of : List Float → Result Joined Refusal → List Float
+costs_of found (Ok j) = joined_costs j
+costs_of found (Err r) = found
 
 -- the number given back, the eight numbers, the costs
-abbrev pub told : List Float → Answer → ℕ × List ℕ × List Float
+abbrev pub told : List Float → Result Joined Refusal → ℕ × List ℕ × List Float
 told found a = (number_of a, answer_eight a, costs_of found a)
 
 abbrev pub settings : ℕ → Float → Float → Float → Settings
@@ -78,18 +74,18 @@ run_out m poses ends edges fixed set l = exported (lent m poses ends edges fixed
 
 -- ---- pgo_decide: rows 15 to 17 and 19 of its settings first; 1 where the list ended before the run did
 
-abbrev pub decision_of : Float → Next → Decided
-decision_of cost (next.On s) = decision.Unended
-decision_of cost (next.Over s e) = decision.Ended (answer_of cost (next.Over s e))
+abbrev pub decision_of : Float → Next → Option (Result Joined Refusal)
+decision_of cost (next.On s) = None
+decision_of cost (next.Over s e) = Some (answer_of cost (next.Over s e))
 
-abbrev pub decision_from : Settings → Float → List ℕ → List Float → Verdict → Decided
-decision_from set cost events prices (verdict.Refused r) = decision.Ended (answer.Refused r)
-decision_from set cost events prices verdict.Fine =
+abbrev pub decision_from : Settings → Float → List ℕ → List Float → Verdict → Option (Result Joined Refusal)
+decision_from set cost events prices (Err r) = Some (Err r)
+decision_from set cost events prices (Ok _) =
     decision_of cost (driven set.limit set.cost_tolerance (next.On (begun cost set.damping)) (events_of events prices))
 
-abbrev pub decided_as : List ℕ → List Float → Decided → ℕ × List ℕ × List Float
-decided_as a c decision.Unended = (1, a, c)
-decided_as a c (decision.Ended x) = told c x
+abbrev pub decided_as : List ℕ → List Float → Option (Result Joined Refusal) → ℕ × List ℕ × List Float
+decided_as a c None = (1, a, c)
+decided_as a c (Some x) = told c x
 
 -- events are 0 to 6
 abbrev pub known : List ℕ → ℕ → Bool

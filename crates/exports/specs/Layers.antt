@@ -1,29 +1,23 @@
 -- What the exported functions of the layers give back and write: lists in, a list written or left as found. A slice of another length than named gets
 -- 4294967295 back, and nothing is changed. Definitions only.
-use Rattle.std.specs.Prelude.{ℕ, ◌&&◌, List, [], ◌∷◌, eqb, length, Float}
+use Rattle.solve.specs.declared.SolveError.TheVariants as solve_error
+use Rattle.solve.specs.declared.SolveError.{SolveError}
+use Rattle.numbers.specs.declared.Failure.{Failure}
+use Rattle.exp_log.specs.Formats.{Twist}
+use Rattle.std.specs.Prelude.{ℕ, ◌&&◌, List, [], ◌∷◌, eqb, length, Float, Err, None, Ok, Option, Result, Some, ⊤}
 use Rattle.numbers.specs.Notation.{if_then, number_at}
 use Rattle.rotations.specs.Rotation.{vec, product, inverse}
 use Rattle.rotations.specs.FromMatrix.{quat_of_matrix}
 use Rattle.exp_log.specs.ExpLog.{exp_of, log_of}
-use Rattle.rotations.specs.declared.Vec3.{Vec3}
+use Rattle.rotations.specs.Formats.{Vec3, Mat3F32, Transform}
 use Rattle.rotations.specs.declared.Pose.{Pose}
-use Rattle.rotations.specs.declared.Mat3F32.{Mat3F32}
-use Rattle.rotations.specs.declared.Transform.{Transform}
-use Rattle.exp_log.specs.declared.Moved.{Moved}
-use Rattle.exp_log.specs.declared.Moved.TheVariants as moved
-use Rattle.pose_conversion.specs.declared.Restored.{Restored}
-use Rattle.pose_conversion.specs.declared.Restored.TheVariants as restored
 use Rattle.graph.specs.Lent.{pose_from, edge_from, numbers_of}
 use Rattle.graph.specs.declared.Edge.{Edge}
 use Rattle.graph.specs.declared.Manifold.TheVariants.{Se3, Gravity}
 use Rattle.residual.specs.Residuals.{residual_of, six_of}
 use Rattle.retraction.specs.Retraction.{retract_of}
-use Rattle.residual.specs.declared.Residual.{Residual}
-use Rattle.residual.specs.declared.Residual.TheVariants as residual
 use Rattle.profile.specs.Layout.{need}
 use Rattle.solve.specs.Work.{solved_as, leaves}
-use Rattle.solve.specs.declared.Solved.{Solved}
-use Rattle.solve.specs.declared.Solved.TheVariants as solved
 use Rattle.telling.specs.Telling.{quat_numbers, transform_numbers}
 
 abbrev pub unfit_number : ℕ
@@ -75,18 +69,19 @@ unfoldable pub log_out : List Float → List Float → ℕ × List Float
 log_out a out = if_then (eqb (length a) 7 && eqb (length out) 6) (0, six_of (log_of (transform_from a))) (unfit_number, out)
 
 -- 1 where it fails, the output as found
-abbrev pub moved_out : List Float → Moved → ℕ × List Float
-moved_out out (moved.To a) = (0, transform_numbers a)
-moved_out out moved.TooFar = (1, out)
+abbrev pub moved_out : List Float → Option Transform → ℕ × List Float
+moved_out out (Some a) = (0, transform_numbers a)
+moved_out out None = (1, out)
 
 -- translation first, then the turn
 unfoldable pub exp_out : List Float → List Float → ℕ × List Float
 exp_out δ out =
-    if_then (eqb (length δ) 6 && eqb (length out) 7) (moved_out out (exp_of (three δ) (vec (number_at δ 3) (number_at δ 4) (number_at δ 5)))) (unfit_number, out)
+    if_then (eqb (length δ) 6 && eqb (length out) 7)
+    (moved_out out (exp_of (three δ) (vec (number_at δ 3) (number_at δ 4) (number_at δ 5)))) (unfit_number, out)
 
-abbrev pub restored_out : List Float → Restored → ℕ × List Float
-restored_out out (restored.Into p) = (0, numbers_of p)
-restored_out out (restored.Bad why) = (1, out)
+abbrev pub restored_out : List Float → Result Pose Failure → ℕ × List Float
+restored_out out (Ok p) = (0, numbers_of p)
+restored_out out (Err why) = (1, out)
 
 unfoldable pub retract_out : List Float → List Float → List Float → ℕ × List Float
 retract_out p δ out =
@@ -99,9 +94,9 @@ retract_gravity_out g p δ out =
     (restored_out out (retract_of (Gravity (three g)) (pose p) δ))
     (unfit_number, out)
 
-abbrev pub six_out : List Float → Residual → ℕ × List Float
-six_out out (residual.Six d) = (0, six_of d)
-six_out out (residual.Failed why) = (1, out)
+abbrev pub six_out : List Float → Result Twist Failure → ℕ × List Float
+six_out out (Ok d) = (0, six_of d)
+six_out out (Err why) = (1, out)
 
 unfoldable pub residual_out : List Float → List Float → List Float → List Float → ℕ × List Float
 residual_out a b e out =
@@ -111,10 +106,10 @@ residual_out a b e out =
 
 -- ---- pgo_solve: the work has exactly n (n + 3) numbers; 1 where it failed
 
-abbrev pub solved_out : List Float → List Float → Solved → ℕ × List Float
-solved_out w left solved.Step = (0, left)
-solved_out w left solved.Failed = (1, left)
-solved_out w left solved.Short = (unfit_number, w)
+abbrev pub solved_out : List Float → List Float → Result ⊤ SolveError → ℕ × List Float
+solved_out w left (Ok _) = (0, left)
+solved_out w left (Err solve_error.Failed) = (1, left)
+solved_out w left (Err solve_error.Short) = (unfit_number, w)
 
 unfoldable pub solve_out : List Float → ℕ → Float → ℕ × List Float
 solve_out w n d = if_then (eqb (length w) (need n)) (solved_out w (leaves w n d (solved_as w n d)) (solved_as w n d)) (unfit_number, w)

@@ -2,7 +2,7 @@
 // 4294967295 back, and nothing is changed; elsewhere 0 means done.
 #![tactic(auto)]
 
-ghost use Rattle.std.specs.Prelude.{◌≡◌, ◌+◌, ◌*◌, ◌<◌, eqb, length};
+ghost use Rattle.std.specs.Prelude.{◌≡◌, ◌+◌, ◌*◌, ◌<◌, eqb, length, slice_index_or};
 ghost use Rattle.numbers.specs.Notation.{num, if_then, number_at};
 ghost use Rattle.rounding.specs.Rounding.{narrowed};
 ghost use Rattle.roots.specs.Roots.{root32, root64};
@@ -19,73 +19,60 @@ ghost use Rattle.exports.specs.Exported.{settings, told, lists, fits_run, run_ou
 ghost use Rattle.exports.specs.Exported.{assemble_out};
 
 use decisions::Next;
-use exp_log::Moved;
 use graph::Manifold;
 use job::SettingBits;
-use numbers::Verdict;
-use pose_conversion::Restored;
-use pose_graph::{Closed, PgoConfig};
-use residual::Residual;
-use rotations::{Mat3F32, QuatF32, Transform, Vec3, Vec3F32};
+use numbers::{Number, Refusal};
+use pose_graph::{PgoConfig, PgoResult};
+use rotations::{Mat3, Quat, Transform, Vec3};
 use rows::Settings;
-use solve::Solved;
-use sparse_pgo::Answer;
+use solve::SolveError;
+use sparse_pgo::Joined;
 
 const UNFIT: u32 = 4294967295;
 
 // ---- numbers in
 
-fn vec32_from(l: &[f32], j: usize) -> Vec3F32
+fn vec_from<T: Number>(l: &[T], j: usize) -> Vec3<T>
     requires { j < 16 }
-    ensures { result ≡ record { x = number_at l.now j; y = number_at l.now (j + 1); z = number_at l.now (j + 2) } }
+    ensures { result ≡ record { x = slice_index_or l.now j T.nan; y = slice_index_or l.now (j + 1) T.nan; z = slice_index_or l.now (j + 2) T.nan } }
 {
-    Vec3F32 {
-        x: numbers::at32(l, j),
-        y: numbers::at32(l, j + 1),
-        z: numbers::at32(l, j + 2),
+    Vec3 {
+        x: numbers::at(l, j),
+        y: numbers::at(l, j + 1),
+        z: numbers::at(l, j + 2),
     }
 }
 
 // Three f32 as a vector of f64.
-fn widened_from(l: &[f32], j: usize) -> Vec3
+fn widened_from(l: &[f32], j: usize) -> Vec3<f64>
     requires { j < 16 }
     ensures { result ≡ vec (number_at l.now j) (number_at l.now (j + 1)) (number_at l.now (j + 2)) }
 {
-    pose_conversion::vec3_to_f64(vec32_from(l, j))
+    pose_conversion::vec3_to_f64(vec_from(l, j))
 }
 
-fn vec_from(l: &[f64]) -> Vec3
-    ensures { result ≡ three l.now }
-{
-    Vec3 {
-        x: numbers::at64(l, 0),
-        y: numbers::at64(l, 1),
-        z: numbers::at64(l, 2),
-    }
-}
-
-fn matrix_from(l: &[f32]) -> Mat3F32
+fn matrix_from(l: &[f32]) -> Mat3<f32>
     ensures { result ≡ matrix_from l.now }
 {
-    Mat3F32 {
-        x: vec32_from(l, 0),
-        y: vec32_from(l, 3),
-        z: vec32_from(l, 6),
+    Mat3 {
+        x: vec_from(l, 0),
+        y: vec_from(l, 3),
+        z: vec_from(l, 6),
     }
 }
 
-fn transform_from(l: &[f32]) -> Transform
+fn transform_from(l: &[f32]) -> Transform<f32>
     ensures { result ≡ transform_from l.now }
 {
-    let q = QuatF32 {
-        x: numbers::at32(l, 0),
-        y: numbers::at32(l, 1),
-        z: numbers::at32(l, 2),
-        w: numbers::at32(l, 3),
+    let q = Quat {
+        x: numbers::at(l, 0),
+        y: numbers::at(l, 1),
+        z: numbers::at(l, 2),
+        w: numbers::at(l, 3),
     };
     Transform {
         q,
-        t: vec32_from(l, 4),
+        t: vec_from(l, 4),
     }
 }
 
@@ -93,8 +80,8 @@ fn transform_from(l: &[f32]) -> Transform
 fn step_from(l: &[f32]) -> [f32; 6]
     ensures { result ≡ first_six l.now }
 {
-    let a = vec32_from(l, 0);
-    let b = vec32_from(l, 3);
+    let a = vec_from(l, 0);
+    let b = vec_from(l, 3);
     [a.x, a.y, a.z, b.x, b.y, b.z]
 }
 
@@ -129,7 +116,7 @@ pub extern "C" fn pgo_quaternion_of_matrix(m: &[f32], out: &mut [f32]) -> u32
         return UNFIT;
     }
     let q = rotations::quat_of_matrix(matrix_from(m));
-    slices::copy32(&telling::quat_numbers(q), out);
+    slices::copy(&telling::quat_numbers(q), out);
     0
 }
 
@@ -142,7 +129,7 @@ pub extern "C" fn pgo_product(a: &[f32], b: &[f32], out: &mut [f32]) -> u32
         return UNFIT;
     }
     let p = rotations::product_of(transform_from(a), transform_from(b));
-    slices::copy32(&telling::transform_numbers(p), out);
+    slices::copy(&telling::transform_numbers(p), out);
     0
 }
 
@@ -154,7 +141,7 @@ pub extern "C" fn pgo_inverse(a: &[f32], out: &mut [f32]) -> u32
         return UNFIT;
     }
     let p = rotations::inverse_of(transform_from(a));
-    slices::copy32(&telling::transform_numbers(p), out);
+    slices::copy(&telling::transform_numbers(p), out);
     0
 }
 
@@ -165,10 +152,10 @@ pub extern "C" fn pgo_exp(delta: &[f32], out: &mut [f32]) -> u32
     if !((delta.len() == 6) & (out.len() == 7)) {
         return UNFIT;
     }
-    let Moved::To(a) = exp_log::exp(widened_from(delta, 0), widened_from(delta, 3)) else {
+    let Some(a) = exp_log::exp(widened_from(delta, 0), widened_from(delta, 3)) else {
         return 1;
     };
-    slices::copy32(&telling::transform_numbers(a), out);
+    slices::copy(&telling::transform_numbers(a), out);
     0
 }
 
@@ -180,7 +167,7 @@ pub extern "C" fn pgo_log(t: &[f32], out: &mut [f32]) -> u32
         return UNFIT;
     }
     let d = exp_log::log(transform_from(t));
-    slices::copy32(&residual::six_of(d), out);
+    slices::copy(&residual::six_of(d), out);
     0
 }
 
@@ -192,10 +179,10 @@ pub extern "C" fn pgo_retract(pose: &[f64], delta: &[f32], out: &mut [f64]) -> u
         return UNFIT;
     }
     let p = graph::pose_at(pose, 0);
-    let Restored::Into(p) = retraction::retract(Manifold::Se3, p, step_from(delta)) else {
+    let Ok(p) = retraction::retract(Manifold::Se3, p, step_from(delta)) else {
         return 1;
     };
-    slices::copy64(&graph::numbers_of(p), out);
+    slices::copy(&graph::numbers_of(p), out);
     0
 }
 
@@ -212,12 +199,12 @@ pub extern "C" fn pgo_retract_with_gravity(
     if !((g.len() == 3) & ((pose.len() == 12) & ((delta.len() == 4) & (out.len() == 12)))) {
         return UNFIT;
     }
-    let m = Manifold::Gravity(vec_from(g));
+    let m = Manifold::Gravity(vec_from(g, 0));
     let p = graph::pose_at(pose, 0);
-    let Restored::Into(p) = retraction::retract(m, p, step_from(delta)) else {
+    let Ok(p) = retraction::retract(m, p, step_from(delta)) else {
         return 1;
     };
-    slices::copy64(&graph::numbers_of(p), out);
+    slices::copy(&graph::numbers_of(p), out);
     0
 }
 
@@ -231,10 +218,10 @@ pub extern "C" fn pgo_residual(a: &[f64], b: &[f64], edge: &[f32], out: &mut [f3
     let p = graph::pose_at(a, 0);
     let q = graph::pose_at(b, 0);
     let e = graph::edge_at(edge, 0);
-    let Residual::Six(d) = residual::weighted_relative_residual(p, q, e) else {
+    let Ok(d) = residual::weighted_relative_residual(p, q, e) else {
         return 1;
     };
-    slices::copy32(&residual::six_of(d), out);
+    slices::copy(&residual::six_of(d), out);
     0
 }
 
@@ -251,9 +238,11 @@ pub extern "C" fn pgo_solve(work: &mut [f32], n: u32, damping: f32) -> u32
         return UNFIT;
     }
     match solve::solve_damped(work, k, damping) {
-        Solved::Step => 0,
-        Solved::Failed => 1,
-        Solved::Short => UNFIT,
+        Ok(()) => 0,
+        Err(error) => match error {
+            SolveError::Failed => 1,
+            SolveError::Short => UNFIT,
+        },
     }
 }
 
@@ -266,17 +255,17 @@ fn run_fits(answer: usize, costs: usize) -> bool
 }
 
 // The costs of a refusal stay as found.
-fn put_answer(answer: &mut [u32], costs: &mut [f32], a: Answer) -> u32
+fn put_answer(answer: &mut [u32], costs: &mut [f32], a: Result<Joined, Refusal>) -> u32
     requires { (length answer.old ≡ 8) × (length costs.old ≡ 2) }
     ensures { (result, answer.new, costs.new) ≡ told costs.old a }
 {
-    slices::copy_counts(&telling::answer_eight(a), answer);
+    slices::copy(&telling::answer_eight(a), answer);
     match a {
-        Answer::Joined(j) => {
-            slices::copy32(&telling::joined_costs(j), costs);
+        Ok(j) => {
+            slices::copy(&telling::joined_costs(j), costs);
             0
         }
-        Answer::Refused(r) => r.number,
+        Err(r) => r.number,
     }
 }
 
@@ -392,19 +381,17 @@ pub extern "C" fn pgo_optimize_with_gravity(
 
 // ---- the decisions over a prepared list
 
-// What the list of events leads to: it may end before the run does.
-#[derive(Clone, Copy)]
-enum Decided {
-    Unended,
-    Ended(Answer),
-}
-
-// Where the settings don't pass their checks it is over at once.
-fn decide(set: Settings, cost: f32, events: &[u32], prices: &[f32]) -> Decided
+// What the list of events leads to; none where it ends before the run does. Where the settings don't pass their checks it is over at once.
+fn decide(
+    set: Settings,
+    cost: f32,
+    events: &[u32],
+    prices: &[f32],
+) -> Option<Result<Joined, Refusal>>
     ensures { result ≡ decision_from set cost events.now prices.now (verdict (setting_rows set)) }
 {
-    if let Verdict::Refused(r) = rows::validate_settings(set) {
-        return Decided::Ended(Answer::Refused(r));
+    if let Err(r) = rows::validate_settings(set) {
+        return Some(Err(r));
     }
     let n = events::drive(
         set.limit,
@@ -415,9 +402,9 @@ fn decide(set: Settings, cost: f32, events: &[u32], prices: &[f32]) -> Decided
         prices,
     );
     let Next::Over(s, e) = n else {
-        return Decided::Unended;
+        return None;
     };
-    Decided::Ended(sparse_pgo::answer_of(cost, s, e, s.accepted + s.rejected))
+    Some(sparse_pgo::answer_of(cost, s, e, s.accepted + s.rejected))
 }
 
 // Whether all are events: 0 to 6.
@@ -425,10 +412,8 @@ fn known_events(events: &[u32]) -> bool
     ensures { result ≡ known events.now (length events.now) }
 {
     let mut good = true;
-    let mut i = 0usize;
-    while i < events.len() {
-        good = good & (events[i] <= 6);
-        i += 1;
+    for event in events {
+        good = good & (*event <= 6);
     }
     good
 }
@@ -463,7 +448,7 @@ pub extern "C" fn pgo_decide(
         gradient_tolerance: 0.0,
         damping,
     };
-    let Decided::Ended(a) = decide(set, cost, events, prices) else {
+    let Some(a) = decide(set, cost, events, prices) else {
         return 1;
     };
     put_answer(answer, costs, a)
@@ -471,7 +456,7 @@ pub extern "C" fn pgo_decide(
 
 // ---- an assembly alone
 
-fn manifold_of(dof: u32, g: Vec3) -> Manifold
+fn manifold_of(dof: u32, g: Vec3<f64>) -> Manifold
     ensures { result ≡ if_then (eqb dof 6) Manifold.Se3 (Manifold.Gravity g) }
 {
     if dof == 6 {
@@ -496,7 +481,7 @@ pub extern "C" fn pgo_assemble(
     if !((gravity.len() == 3) & ((dof == 6) | (dof == 4))) {
         return UNFIT;
     }
-    let m = manifold_of(dof, vec_from(gravity));
+    let m = manifold_of(dof, vec_from(gravity, 0));
     normal_system::assemble_alone(m, poses, ends, edges, fixed, work)
 }
 
@@ -519,7 +504,7 @@ pub extern "C" fn pgo_read_job(
         return UNFIT;
     }
     let v = job::read_job(bytes, poses, ends, edges, fixed);
-    slices::copy_counts(&telling::read_answer(v), answer);
+    slices::copy(&telling::read_answer(v), answer);
     telling::read_number(v)
 }
 
@@ -551,34 +536,39 @@ pub extern "C" fn pgo_write_job(
         damping,
     };
     let v = job::write_job(t, poses, ends, edges, fixed, out);
-    slices::copy_counts(&telling::written_two(v), answer);
+    slices::copy(&telling::written_two(v), answer);
     telling::written_number(v)
 }
 
 // ---- scans
 
-fn nine_of(c: Closed) -> [u32; 9]
+fn nine_of(c: Result<PgoResult, Refusal>) -> [u32; 9]
     ensures { result ≡ closed_nine c }
 {
     match c {
-        Closed::Ran(x) => telling::judged_nine(x.run, x.usable),
-        Closed::Refused(r) => telling::refused_nine(r),
+        Ok(x) => telling::judged_nine(x.run, x.usable),
+        Err(r) => telling::refused_nine(r),
     }
 }
 
 // The costs and the measures of a refusal stay as found.
-fn put_closed(answer: &mut [u32], costs: &mut [f32], measures: &mut [f64], c: Closed) -> u32
+fn put_closed(
+    answer: &mut [u32],
+    costs: &mut [f32],
+    measures: &mut [f64],
+    c: Result<PgoResult, Refusal>,
+) -> u32
     requires { (length answer.old ≡ 9) × (length costs.old ≡ 2) × (length measures.old ≡ 4) }
     ensures { (result, answer.new, costs.new, measures.new) ≡ closed_told costs.old measures.old c }
 {
-    slices::copy_counts(&nine_of(c), answer);
+    slices::copy(&nine_of(c), answer);
     match c {
-        Closed::Ran(x) => {
-            slices::copy32(&telling::joined_costs(x.run), costs);
-            slices::copy64(&telling::measures_four(x.measures), measures);
+        Ok(x) => {
+            slices::copy(&telling::joined_costs(x.run), costs);
+            slices::copy(&telling::measures_four(x.measures), measures);
             0
         }
-        Closed::Refused(r) => r.number,
+        Err(r) => r.number,
     }
 }
 
@@ -588,7 +578,7 @@ fn gravity_from(g: &[f64]) -> Manifold
     if g.len() == 0 {
         return Manifold::Se3;
     }
-    Manifold::Gravity(vec_from(g))
+    Manifold::Gravity(vec_from(g, 0))
 }
 
 // A scan's loops closed: gravity is no number or three. answer: the run's eight, then usable; measures: first cost, last cost, the last edge's residual before

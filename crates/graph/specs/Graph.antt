@@ -1,9 +1,7 @@
 -- The graph that an input means: document 01, "Graph, residual, assembly". P is a pose, M what an edge measured. Definitions only.
-use Rattle.std.specs.Prelude.{ℕ, Bool, true, false, not, ◌&&◌, ◌||◌, eqb}
+use Rattle.std.specs.Prelude.{ℕ, Bool, not, ◌&&◌, ◌||◌, eqb, None, Option, Some, is_some}
 use Rattle.numbers.specs.Notation.{if_then}
 use Rattle.numbers.specs.Walks.{some, count}
-use Rattle.graph.specs.declared.Slot.{Slot}
-use Rattle.graph.specs.declared.Slot.TheVariants.{Block, Fixed}
 
 -- poses and edges by number; `fixed`: the fixed list names the pose
 pub record Graph (P M : Type 0) : Type 0 where
@@ -31,8 +29,8 @@ abbrev pub free_count : {P M : Type 0} → Graph P M → ℕ
 free_count g = count (is_free g) g.poses
 
 -- where a pose's numbers stand in the system
-unfoldable pub slot_at : {P M : Type 0} → Graph P M → ℕ → Slot
-slot_at g x = if_then (is_free g x) (Block (block_of g x)) Fixed
+unfoldable pub slot_at : {P M : Type 0} → Graph P M → ℕ → Option ℕ
+slot_at g x = if_then (is_free g x) (Some (block_of g x)) None
 
 -- ---- the edges as cost and assembly walk them. What edge k does depends on the slots of its ends, on their poses and on what it measured alone.
 pub record Links (M : Type 0) : Type 0 where
@@ -40,15 +38,11 @@ pub record Links (M : Type 0) : Type 0 where
   pub a : ℕ → ℕ
   pub b : ℕ → ℕ
   pub measured : ℕ → M
-  pub slot : ℕ → Slot
+  pub slot : ℕ → Option ℕ
 
 unfoldable pub links_of : {P M : Type 0} → Graph P M → Links M
 links_of g = record { edges = g.edges; a = g.a; b = g.b; measured = g.measured; slot = slot_at g }
 
-abbrev pub is_block : Slot → Bool
-is_block (Block b) = true
-is_block Fixed = false
-
 -- an edge with a free end is active
 abbrev pub is_active : {M : Type 0} → Links M → ℕ → Bool
-is_active l k = is_block (l.slot (l.a k)) || is_block (l.slot (l.b k))
+is_active l k = is_some (l.slot (l.a k)) || is_some (l.slot (l.b k))

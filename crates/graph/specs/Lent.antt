@@ -1,13 +1,11 @@
 -- What the lent numbers mean (document 01, "Numbers lent and given back"): poses of twelve f64, ends of two u32, edges of eight f32, an array of blocks.
 -- Definitions only.
-use Rattle.std.specs.Prelude.{ℕ, ◌+◌, ◌*◌, ◌/◌, List, [], ◌∷◌, length, get_or, ltb, Float}
+use Rattle.std.specs.Prelude.{ℕ, ◌+◌, ◌*◌, ◌/◌, List, [], ◌∷◌, length, get_or, ltb, Float, None, Option, Some}
 use Rattle.std.specs.Float.{nan}
 use Rattle.numbers.specs.Notation.{if_then}
 use Rattle.rotations.specs.Rotation.{vec}
 use Rattle.rotations.specs.declared.Pose.{Pose}
 use Rattle.graph.specs.declared.Edge.{Edge}
-use Rattle.graph.specs.declared.Slot.{Slot}
-use Rattle.graph.specs.declared.Slot.TheVariants.{Block, Fixed}
 use Rattle.graph.specs.declared.Manifold.{Manifold}
 use Rattle.graph.specs.declared.Manifold.TheVariants.{Se3, Gravity}
 use Rattle.graph.specs.Graph.{Links}
@@ -62,8 +60,8 @@ abbrev pub none : ℕ
 none = 4294967295
 
 -- a block below the free count; anything else stands for a pose that is not free
-unfoldable pub slot_in : List ℕ → ℕ → ℕ → Slot
-slot_in blocks free x = let b = get_or blocks x none in if_then (ltb b free) (Block b) Fixed
+unfoldable pub slot_in : List ℕ → ℕ → ℕ → Option ℕ
+slot_in blocks free x = let b = get_or blocks x none in if_then (ltb b free) (Some b) None
 
 -- the edges with the slots of such an array
 abbrev pub lent_links : List ℕ → List Float → List ℕ → ℕ → Links Edge

@@ -6,7 +6,7 @@ ghost use Rattle.std.specs.Float.{nan};
 ghost use Rattle.rotations.specs.Rotation.{vec};
 ghost use Rattle.graph.specs.Lent.{dof_of, pose_from, pose_at, numbers_of, edge_from, edge_at, none, slot_in};
 
-use rotations::{Mat3, Pose, QuatF32, Transform, Vec3, Vec3F32};
+use rotations::{Mat3, Pose, Quat, Transform, Vec3};
 
 // 2^59: no lent numbers reach as far as a pose or an edge of this number.
 const FAR: usize = 0x800_0000_0000_0000;
@@ -15,21 +15,14 @@ const FAR: usize = 0x800_0000_0000_0000;
 #[derive(Clone, Copy)]
 pub enum Manifold {
     Se3,
-    Gravity(Vec3),
+    Gravity(Vec3<f64>),
 }
 
 // What an edge measured, and its weight.
 #[derive(Clone, Copy)]
 pub struct Edge {
-    pub measured: Transform,
+    pub measured: Transform<f32>,
     pub weight: f32,
-}
-
-// Where a pose's numbers stand in the system: its block, or nowhere.
-#[derive(Clone, Copy)]
-pub enum Slot {
-    Block(usize),
-    Fixed,
 }
 
 // Degrees of freedom a pose.
@@ -43,14 +36,14 @@ pub fn dof(m: Manifold) -> usize
 }
 
 // Three numbers of a pose that starts at `at`, from its j-th on.
-fn vec3_at(poses: &[f64], at: usize, j: usize) -> Vec3
+fn vec3_at(poses: &[f64], at: usize, j: usize) -> Vec3<f64>
     requires { (at < 2 ^ 63) × (j < 12) }
     ensures { result ≡ vec (get_or poses.now (at + j) nan) (get_or poses.now (at + (j + 1)) nan) (get_or poses.now (at + (j + 2)) nan) }
 {
     Vec3 {
-        x: numbers::at64(poses, at + j),
-        y: numbers::at64(poses, at + (j + 1)),
-        z: numbers::at64(poses, at + (j + 2)),
+        x: numbers::at(poses, at + j),
+        y: numbers::at(poses, at + (j + 1)),
+        z: numbers::at(poses, at + (j + 2)),
     }
 }
 
@@ -96,21 +89,21 @@ pub fn numbers_of(p: Pose) -> [f64; 12]
 }
 
 // The transform that starts at `at`.
-fn transform_at(edges: &[f32], at: usize) -> Transform
+fn transform_at(edges: &[f32], at: usize) -> Transform<f32>
     requires { at < 2 ^ 63 }
     ensures { result ≡ (edge_from (λ j. get_or edges.now (at + j) nan)).measured }
 {
     Transform {
-        q: QuatF32 {
-            x: numbers::at32(edges, at),
-            y: numbers::at32(edges, at + 1),
-            z: numbers::at32(edges, at + 2),
-            w: numbers::at32(edges, at + 3),
+        q: Quat {
+            x: numbers::at(edges, at),
+            y: numbers::at(edges, at + 1),
+            z: numbers::at(edges, at + 2),
+            w: numbers::at(edges, at + 3),
         },
-        t: Vec3F32 {
-            x: numbers::at32(edges, at + 4),
-            y: numbers::at32(edges, at + 5),
-            z: numbers::at32(edges, at + 6),
+        t: Vec3 {
+            x: numbers::at(edges, at + 4),
+            y: numbers::at(edges, at + 5),
+            z: numbers::at(edges, at + 6),
         },
     }
 }
@@ -122,13 +115,13 @@ fn no_edge() -> Edge
     let x = 0.0f32 / 0.0f32;
     Edge {
         measured: Transform {
-            q: QuatF32 {
+            q: Quat {
                 x,
                 y: x,
                 z: x,
                 w: x,
             },
-            t: Vec3F32 { x, y: x, z: x },
+            t: Vec3 { x, y: x, z: x },
         },
         weight: x,
     }
@@ -144,7 +137,7 @@ pub fn edge_at(edges: &[f32], k: usize) -> Edge
     let at = k * 8;
     Edge {
         measured: transform_at(edges, at),
-        weight: numbers::at32(edges, at + 7),
+        weight: numbers::at(edges, at + 7),
     }
 }
 
@@ -159,14 +152,10 @@ pub fn block_at(blocks: &[u32], x: usize) -> u32
     }
 }
 
-// The slot of pose x in an array of blocks.
-pub fn slot_at(blocks: &[u32; 256], free: u32, x: usize) -> Slot
+// Where the numbers of pose x stand in the system: its block, or nowhere.
+pub fn slot_at(blocks: &[u32; 256], free: u32, x: usize) -> Option<usize>
     ensures { result ≡ slot_in blocks.now free x }
 {
     let b = block_at(blocks, x);
-    if b < free {
-        Slot::Block(b as usize)
-    } else {
-        Slot::Fixed
-    }
+    if b < free { Some(b as usize) } else { None }
 }

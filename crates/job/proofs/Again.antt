@@ -8,13 +8,12 @@ use borrow.Author.Tests.{eq-eqb, le-ltb}
 use lib.ListN.{length, take, drop}
 use lib.Seq.{take_at}
 use Rattle.numbers.specs.Walks.{table}
+use Rattle.numbers.specs.declared.Refusal.{Refusal}
 use Rattle.job_records.specs.declared.Tally.{Tally}
 use Rattle.job.specs.declared.SettingBits.{SettingBits}
-use Rattle.job.specs.declared.Read.{Read}
-use Rattle.job.specs.declared.Read.TheVariants as read
-use Rattle.job.specs.declared.Written.TheVariants as written
 use Rattle.job_records.specs.Bytes.{values_at, pasted}
-use Rattle.job.specs.Format.{Job, Space, space, tally_of, encoded, size_of, Reading, taken, refused, reading, room_in, filled, settings_from, read_gives, read_into}
+use Rattle.job.specs.Format.{Job, Space, space, tally_of, encoded, size_of, Reading, taken, refused, reading}
+use Rattle.job.specs.Format.{room_in, filled, settings_from, read_gives, read_into}
 use Rattle.job.specs.Format.{setting_numbers, job_of}
 use Rattle.job.specs.Writer.{written_into}
 use Rattle.job.proofs.Bytewise.{Bytes}
@@ -22,6 +21,7 @@ use Rattle.job.proofs.Along.{job_same}
 use Rattle.job.proofs.Encoding.{length_encoded}
 use Rattle.job.proofs.Writing.{misfit, written_whole}
 use Rattle.job.proofs.Trips.{read_settings, read_lengths, read_written}
+use Rattle.std.specs.Prelude.{Result, Ok}
 
 -- so many poses, edges and fixed entries from the start of each list
 abbrev pub front : Tally → Space → Space
@@ -56,26 +56,30 @@ module _ (room : Tally) (s : List ℕ) (t : Tally) (j : Job) (e : reading room s
         eq-eqb (length j.edges) (4 * length j.ends) (omega arith),
       )
 
-  written_again : (out : List ℕ) → Bytes s → length s ≤ length out → written_into j out ≡ (written.Bytes (length s), pasted 0 s out)
+  written_again : (out : List ℕ) → Bytes s → length s ≤ length out → written_into j out ≡ (Ok (length s), pasted 0 s out)
   written_again out b h =
       let w = read_written room s t j b e in
       let n : size_of (tally_of j) ≡ length s = sym (length_encoded j) ∙ ap length w in
       sym (written_whole j out fits_again (le-ltb (length out) (size_of (tally_of j)) (omega arith)))
-      ∙ ap (λ (x : ℕ). (written.Bytes x, pasted 0 (encoded j) out)) n
-      ∙ ap (λ (x : List ℕ). (written.Bytes (length s), pasted 0 x out)) w
+      ∙ ap (λ (x : ℕ). (Ok x, pasted 0 (encoded j) out)) n
+      ∙ ap (λ (x : List ℕ). (Ok (length s), pasted 0 x out)) w
 
-pub given_taken : (x : Reading) (l l' : Space) (t : SettingBits) (had : Tally) → (read.Job t had, l') ≡ read_gives l x
+ok_pair : {t t' : SettingBits} {h h' : Tally} → ◌≡◌ {A = Result (SettingBits × Tally) Refusal} (Ok (t, h)) (Ok (t', h')) → (t ≡ t') × (h ≡ h')
+ok_pair {t} {t'} {h} {h'} e =
+    let p : ◌≡◌ {A = SettingBits × Tally} (t, h) (t', h') = cc in
+    (ap (λ (x : SettingBits × Tally). x.0) p, ap (λ (x : SettingBits × Tally). x.1) p)
+
+pub given_taken : (x : Reading) (l l' : Space) (t : SettingBits) (had : Tally) → (Ok (t, had), l') ≡ read_gives l x
     → (j : Job) × (x ≡ taken had j) × (t ≡ settings_from j.settings) × (l' ≡ filled j l)
 given_taken (taken h j) l l' t had e =
-    let q = ap (λ (y : Read × Space). y.0) e in
-    let tally : h ≡ had = cc in
-    let set : t ≡ settings_from j.settings = cc in
-    (j, ap (λ (y : Tally). taken y j) tally, set, ap (λ (y : Read × Space). y.1) e)
-given_taken (refused k) l l' t had e = let q = ap (λ (y : Read × Space). y.0) e in let z : ◌≡◌ {A = ℕ} 0 1 = cc in absurd (omega arith)
+    let q = ok_pair (ap (λ (y : Result (SettingBits × Tally) Refusal × Space). y.0) e) in
+    (j, ap (λ (y : Tally). taken y j) (sym q.1), q.0, ap (λ (y : Result (SettingBits × Tally) Refusal × Space). y.1) e)
+given_taken (refused k) l l' t had e =
+    let q = ap (λ (y : Result (SettingBits × Tally) Refusal × Space). y.0) e in cc
 
 -- what is read and written again is the same bytes, whatever was lent and however long the output
 pub read_again : (s : List ℕ) (l m : Space) (t : SettingBits) (had : Tally) (out : List ℕ) → Bytes s → length s ≤ length out
-    → read_into s l ≡ (read.Job t had, m) → written_into (job_of t (front had m)) out ≡ (written.Bytes (length s), pasted 0 s out)
+    → read_into s l ≡ (Ok (t, had), m) → written_into (job_of t (front had m)) out ≡ (Ok (length s), pasted 0 s out)
 unfolding read_into
 read_again s l m t had out b h e =
     let x = given_taken (reading (room_in l) s) l m t had (sym e) in

@@ -14,7 +14,6 @@ use Rattle.numbers.proofs.Tables.{length_table}
 use Rattle.job_records.specs.Bytes.{value_at, values_at, bytes_from}
 use Rattle.job_records.specs.declared.Tally.{Tally}
 use Rattle.job_records.specs.declared.Cursor.{Cursor}
-use Rattle.job_records.specs.declared.Step.TheVariants as step
 use Rattle.job_records.specs.Records.{kind_at, length_at}
 use Rattle.job.specs.Format.{Job, empty_job, record_of, settings_record, pose_record, edge_record, fixed_record, first_cursor}
 use Rattle.job_records.specs.Records.{counted, behind, record_step}
@@ -23,6 +22,7 @@ use Rattle.job.proofs.Stepping.{Kind, settings as of-settings, pose as of-pose, 
 use Rattle.job.proofs.Stepping.{FaultFree, fault_free, rises, first, room_for_pose, room_for_edge, room_for_fixed, WentOn, went_on}
 use Rattle.job.proofs.Firsts.{Comes, begins, passes}
 use Rattle.job.proofs.Bytewise.{Bytes, bytes_from_front, strung_ext, numbers_back, passed, part_join}
+use Rattle.std.specs.Prelude.{Some, Ok}
 
 -- the records of a job up to so many poses, edges and fixed entries
 abbrev pub records_of : Tally → Job → List ℕ
@@ -318,7 +318,7 @@ module _ (room : Tally) (s : List ℕ) where
   along_to : {c' d : Cursor} {i i' : Job} → d ≡ c' → i ≡ i' → Along room s c' i' → Along room s d i
   along_to {c'} {d} {i} {i'} x y a = subst (λ (z : Cursor). Along room s z i) (sym x) (subst (λ (z : Job). Along room s c' z) (sym y) a)
 
-  pub along_on : (c d : Cursor) (j : Job) → Along room s c j → record_step room s c ≡ step.On d → Along room s d (holding s c.at j)
+  pub along_on : (c d : Cursor) (j : Job) → Along room s c j → record_step room s c ≡ Ok (Some d) → Along room s d (holding s c.at j)
   along_on c d j a e =
       let w = went_on room s c d e in
       let h = fault_free room s c w.fine in

@@ -11,10 +11,8 @@ use lib.ListN.{length, get_or, take, length-append}
 use lib.Seq.{take-suc, take_all}
 use Rattle.numbers.specs.Notation.{if_then}
 use Rattle.numbers.specs.Walks.{table, strung}
-use Rattle.numbers.specs.declared.Verdict.TheVariants as verdict
 use Rattle.job_records.specs.declared.Tally.{Tally}
 use Rattle.job_records.specs.declared.Cursor.{Cursor}
-use Rattle.job_records.specs.declared.Step.TheVariants as step
 use Rattle.job_records.specs.Bytes.{values_at, bytes_from}
 use Rattle.job.specs.Format.{Job, empty_job, tally_of, settings_record, pose_record, edge_record, fixed_record, end_record, encoded}
 use Rattle.job_records.specs.Records.{kind_at, is_record, may_follow, is_full, fault_of, counted, step_from, record_step}
@@ -26,6 +24,7 @@ use Rattle.job.proofs.Bytewise.{Bytes}
 use Rattle.job.proofs.Trips.{Wide, read_wide, read_settings, read_lengths, read_tally}
 use Rattle.job.proofs.Standing.{Stands, stands_whole, moved, stands_first, stands_second, stands_each, values_stand}
 use Rattle.job.proofs.Standing.{Header, body_stands, header_stands}
+use Rattle.std.specs.Prelude.{Some, None, Ok}
 
 -- a job whose numbers fit: four settings, whole poses and edges, each number within its width
 pub record JobFits (j : Job) : Type 0 where
@@ -61,7 +60,7 @@ may_follow_lem last kind h l k = simp (ne_eqb last 0 (λ q. omega arith), ne_eqb
 
 module _ (room : Tally) (s : List ℕ) (c : Cursor) where
   no_fault : (kind len : ℕ) → Header s c.at kind len → is_record kind len ≡ true → may_follow c.last kind ≡ true → is_full room c.had kind ≡ false
-      → fault_of room s c ≡ verdict.Fine
+      → fault_of room s c ≡ Ok tt
   unfolding fault_of
   no_fault kind len h r f l =
       let w = h.whole in
@@ -69,12 +68,12 @@ module _ (room : Tally) (s : List ℕ) (c : Cursor) where
 
   goes_on : (kind len : ℕ) → kind < 5 → Header s c.at kind len → is_record kind len ≡ true
       → may_follow c.last kind ≡ true → is_full room c.had kind ≡ false
-      → record_step room s c ≡ step.On (record { at = c.at + 4 + len; last = kind; had = counted kind c.had })
+      → record_step room s c ≡ Ok (Some (record { at = c.at + 4 + len; last = kind; had = counted kind c.had }))
   unfolding record_step if_then
   goes_on kind len u h r f l =
       ap (step_from s c) (no_fault kind len h r f l) ∙ simp (h.length_is, h.kind_is, ne_eqb kind 5 (λ q. omega arith))
 
-  is_done : Header s c.at 5 0 → 0 < c.last → c.last ≤ 5 → length s ≡ c.at + 4 → record_step room s c ≡ step.Done
+  is_done : Header s c.at 5 0 → 0 < c.last → c.last ≤ 5 → length s ≡ c.at + 4 → record_step room s c ≡ Ok None
   unfolding record_step if_then is_record is_full
   is_done h u v e =
       ap (step_from s c) (no_fault 5 0 h refl (may_follow_lem c.last 5 u v (lit< tt)) refl)

@@ -1,44 +1,22 @@
--- The lengths of numbers, records and a job as bytes, and the bytes of a number one by one. Assumes nothing.
-use Prim.Native.Nat.{ℕ, zero, suc, ◌+◌, ◌*◌, ◌/◌, ◌%◌}
+-- The lengths of numbers, records and a job as bytes. Assumes nothing.
+use Prim.Native.Nat.{ℕ, ◌+◌, ◌*◌}
 use native.Mathlib.Omega.{arith}
-use mathlib.Core.Path.{◌≡◌, refl, ap}
-use mathlib.Core.List.{List, [], ◌∷◌, ◌++◌}
+use mathlib.Core.Path.{◌≡◌}
+use mathlib.Core.List.{List, []}
 use lib.ListN.{length, get_or, length-append}
 use Rattle.numbers.specs.Walks.{strung}
 use Rattle.job_records.specs.Bytes.{bytes_of, bytes_from}
 use Rattle.job.specs.Format.{Job, tally_of, record_of, settings_record, pose_record, edge_record, fixed_record, end_record, encoded, size_of}
+use Rattle.job_records.proofs.Words.{length_bytes}
 use Rattle.job.proofs.Pasting.{length_strung}
-
--- ---- one number
-
-pub length_bytes_of : (w x : ℕ) → length (bytes_of w x) ≡ w
-unfolding bytes_of
-length_bytes_of zero x = refl
-length_bytes_of (suc w) x = ap suc (length_bytes_of w (x / 256))
-
--- x divided i times by 256
-unfoldable pub shifted : ℕ → ℕ → ℕ
-shifted zero x = x
-shifted (suc i) x = shifted i (x / 256)
-
-pub shifted_more : (i x : ℕ) → shifted i x / 256 ≡ shifted (suc i) x
-unfolding shifted
-shifted_more zero x = refl
-shifted_more (suc i) x = shifted_more i (x / 256)
-
--- one byte more: the low byte of what is left
-pub bytes_of_more : (i x : ℕ) → bytes_of i x ++ (shifted i x % 256 ∷ []) ≡ bytes_of (suc i) x
-unfolding shifted bytes_of
-bytes_of_more zero x = refl
-bytes_of_more (suc i) x = ap (λ (t : List ℕ). x % 256 ∷ t) (bytes_of_more i (x / 256))
 
 -- ---- numbers and records
 
 pub length_bytes_from : (w n : ℕ) (ns : List ℕ) (from : ℕ) → length (bytes_from w n ns from) ≡ w * n
-length_bytes_from w n ns from = length_strung (λ i. bytes_of w (get_or ns (from + i) 0)) w n (λ i. length_bytes_of w (get_or ns (from + i) 0))
+length_bytes_from w n ns from = length_strung (λ i. bytes_of w (get_or ns (from + i) 0)) w n (λ i. length_bytes w (get_or ns (from + i) 0))
 
 pub length_record_of : (kind : ℕ) (body : List ℕ) → length (record_of kind body) ≡ 4 + length body
-length_record_of kind body = simp (length-append, length_bytes_of)
+length_record_of kind body = simp (length-append, length_bytes)
 
 pub length_settings_record : (settings : List ℕ) → length (settings_record settings) ≡ 20
 length_settings_record settings = rw (length_record_of, length_bytes_from)

@@ -5,27 +5,28 @@ use native.Mathlib.Omega.{arith}
 use mathlib.Core.Path.{◌≡◌, refl, sym, ap, subst, ◌∙◌}
 use mathlib.Core.Bool.{Bool, true, false}
 use mathlib.Core.List.{List, [], ◌∷◌, ◌++◌}
-use borrow.Author.Tests.{eqb-true, eq-eqb, ne_eqb}
+use borrow.Author.Tests.{eqb-true}
 use lib.Dec.{eqb}
 use lib.ListN.{length, get_or, length-append}
 use Rattle.numbers.specs.Notation.{if_then}
 use Rattle.numbers.specs.declared.Refusal.{Refusal}
-use Rattle.numbers.specs.declared.Verdict.TheVariants as verdict
-use Rattle.numbers.proofs.Choices.{taken, left}
 use Rattle.numbers.proofs.Tables.{length_table}
 use Rattle.job_records.specs.declared.Tally.{Tally}
 use Rattle.job_records.specs.declared.Cursor.{Cursor}
-use Rattle.job_records.specs.declared.Step.TheVariants as step
-use Rattle.job.specs.declared.Scanned.TheVariants as scanned
-use Rattle.job_records.specs.Bytes.{values_at, pasted}
+use Rattle.job_records.specs.Bytes.{pasted}
 use Rattle.job_records.specs.Records.{kind_at, length_at, is_full, fault_of, one, behind, record_step}
 use Rattle.job.specs.Format.{Job, numbers_if, holding, Reading, reading}
 use Rattle.job.specs.Format.{first_cursor, empty_job, Space, space, room_in, filled, scanned_as, IsTaken, taking, filled_by}
 use Rattle.job.proofs.Pasting.{pasted_none, pasted_more, length_pasted}
 use Rattle.job.proofs.Stepping.{CursorIn, Kind, settings, pose, edge, fixed, end, fault_free, room_for_pose, room_for_edge, room_for_fixed, went_on}
 use Rattle.job.proofs.Stepping.{cursor_on, cursor_start, from, from_start, from_on, from_done, from_stop}
+use Rattle.std.specs.Prelude.{Option, Some, None, Result, Ok, Err}
 
 -- ---- what the scan knows at a cursor
+
+-- what the step at a cursor is, by the two patterns that its answer was matched against
+pub stepped : {T E : Type 0} {x y : Result (Option T) E} {o p : Option T} → x ≡ y → x ≡ Ok o → o ≡ p → y ≡ Ok p
+stepped e q r = sym e ∙ q ∙ ap (λ o. Ok o) r
 
 pub record Seen (room : Tally) (s : List ℕ) (c : Cursor) : Type 0 where
   pub cursor : CursorIn s c
@@ -36,7 +37,7 @@ abbrev pub seen_start : (room : Tally) (s : List ℕ) → Seen room s first_curs
 seen_start room s = record { cursor = cursor_start s; job = empty_job; is = from_start room s }
 
 module _ {room : Tally} {s : List ℕ} {c : Cursor} (h : Seen room s c) where
-  abbrev pub seen_on : (d : Cursor) → record_step room s c ≡ step.On d → Seen room s d
+  abbrev pub seen_on : (d : Cursor) → record_step room s c ≡ Ok (Some d) → Seen room s d
   seen_on d e =
       record {
         cursor = (cursor_on room s c d h.cursor e).0;
@@ -44,16 +45,16 @@ module _ {room : Tally} {s : List ℕ} {c : Cursor} (h : Seen room s c) where
         is = h.is ∙ from_on room s c d h.job h.cursor e;
       }
 
-  pub seen_less : (d : Cursor) → record_step room s c ≡ step.On d → length s - d.at < length s - c.at
+  pub seen_less : (d : Cursor) → record_step room s c ≡ Ok (Some d) → length s - d.at < length s - c.at
   seen_less d e =
       let w = cursor_on room s c d h.cursor e in
       let a = w.1 in let b = w.0.0 in
       omega arith
 
-  pub seen_done : record_step room s c ≡ step.Done → scanned.Whole c.had ≡ scanned_as (reading room s)
+  pub seen_done : record_step room s c ≡ Ok None → Ok c.had ≡ scanned_as (reading room s)
   seen_done e = sym (ap scanned_as (h.is ∙ from_done room s c h.job e))
 
-  pub seen_stop : (r : Refusal) → record_step room s c ≡ step.Stop r → scanned.Refused r ≡ scanned_as (reading room s)
+  pub seen_stop : (r : Refusal) → record_step room s c ≡ Err r → Err r ≡ scanned_as (reading room s)
   seen_stop r e = sym (ap scanned_as (h.is ∙ from_stop room s c h.job r e))
 
 -- ---- a record of a kind: it is whole, there is room for what it holds, and that is what is taken
@@ -68,15 +69,6 @@ body_length_lem (pose p q) = q ∙ sym (ap body_length p)
 body_length_lem (edge p q) = q ∙ sym (ap body_length p)
 body_length_lem (fixed p q) = q ∙ sym (ap body_length p)
 body_length_lem (end p q) = q ∙ sym (ap body_length p)
-
-taken_if : (b : Bool) (p : ℕ) (ys l : List ℕ) → b ≡ true → pasted p ys l ≡ pasted p (numbers_if b ys) l
-taken_if b p ys l e = ap (λ (x : List ℕ). pasted p x l) (taken [] e refl)
-
-left_if : (b : Bool) (p : ℕ) (ys l : List ℕ) → b ≡ false → l ≡ pasted p (numbers_if b ys) l
-left_if b p ys l e = sym (pasted_none p l) ∙ ap (λ (x : List ℕ). pasted p x l) (left ys e refl)
-
-other : {k : ℕ} (a b : ℕ) → k ≡ a → eqb a b ≡ false → eqb k b ≡ false
-other a b e f = ap (λ (x : ℕ). eqb x b) e ∙ f
 
 all_four : {a b c d a' b' c' d' : List ℕ} → a ≡ a' → b ≡ b' → c ≡ c' → d ≡ d' → space a b c d ≡ space a' b' c' d'
 all_four p q r t = rw (p, q, r, t)
@@ -95,11 +87,8 @@ in_edges {room} l e =
 in_fixed : {room : Tally} (l : Space) → room ≡ room_in l → room.fixed ≡ length l.fixed
 in_fixed l e = ap (λ (t : Tally). t.fixed) e
 
-module _ (s : List ℕ) (c : Cursor) (l : Space) (fine : fault_of (room_in l) s c ≡ verdict.Fine) where
-  pub header_there : c.at + 4 ≤ length s
-  header_there = (fault_free (room_in l) s c fine).header
-
-  pub pose_there : kind_at s c.at ≡ 2 → (c.at + 4 + 8 * 12 ≤ length s) × (12 * c.had.poses + 12 ≤ length l.poses)
+module _ (s : List ℕ) (c : Cursor) (l : Space) (fine : fault_of (room_in l) s c ≡ Ok tt) where
+  pub pose_there : kind_at s c.at ≡ 2 → (c.at + 100 ≤ length s) × (12 * c.had.poses + 12 ≤ length l.poses)
   pose_there k =
       let h = fault_free (room_in l) s c fine in
       let n : length_at s c.at ≡ 96 = body_length_lem h.kind ∙ ap body_length k in
@@ -108,7 +97,7 @@ module _ (s : List ℕ) (c : Cursor) (l : Space) (fine : fault_of (room_in l) s 
       (omega arith, omega arith)
 
   pub edge_there : kind_at s c.at ≡ 3
-      → (c.at + 12 + 4 * 8 ≤ length s) × (2 * c.had.edges + 2 ≤ length l.ends) × (8 * c.had.edges + 8 ≤ length l.edges)
+      → (c.at + 44 ≤ length s) × (2 * c.had.edges + 2 ≤ length l.ends) × (8 * c.had.edges + 8 ≤ length l.edges)
   edge_there k =
       let h = fault_free (room_in l) s c fine in
       let n : length_at s c.at ≡ 40 = body_length_lem h.kind ∙ ap body_length k in
@@ -117,43 +106,13 @@ module _ (s : List ℕ) (c : Cursor) (l : Space) (fine : fault_of (room_in l) s 
       let m = in_edges {room = room_in l} l refl in
       (omega arith, omega arith, omega arith)
 
-  pub fixed_there : kind_at s c.at ≡ 4 → (c.at + 4 + 4 * 1 ≤ length s) × (c.had.fixed + 1 ≤ length l.fixed)
+  pub fixed_there : kind_at s c.at ≡ 4 → (c.at + 8 ≤ length s) × (c.had.fixed + 1 ≤ length l.fixed)
   fixed_there k =
       let h = fault_free (room_in l) s c fine in
       let n : length_at s c.at ≡ 4 = body_length_lem h.kind ∙ ap body_length k in
       let w = h.whole in
       let r = room_for_fixed (room_in l) c.had (kind_at s c.at) h.room_left k in
       (omega arith, omega arith)
-
-module _ (s : List ℕ) (c : Cursor) (poses ends edges fixed : List ℕ) where
-  pub takes_pose : (ps : List ℕ) → kind_at s c.at ≡ 2 → ps ≡ pasted (12 * c.had.poses) (values_at 8 12 s (c.at + 4)) poses
-      → space ps ends edges fixed ≡ taking s c (space poses ends edges fixed)
-  unfolding taking
-  takes_pose ps k e =
-      all_four (e ∙ taken_if _ _ _ poses (eq-eqb _ 2 k)) (left_if _ _ _ ends (other 2 3 k refl))
-      (left_if _ _ _ edges (other 2 3 k refl)) (left_if _ _ _ fixed (other 2 4 k refl))
-
-  pub takes_edge : (es ms : List ℕ) → kind_at s c.at ≡ 3 → es ≡ pasted (2 * c.had.edges) (values_at 4 2 s (c.at + 4)) ends
-      → ms ≡ pasted (8 * c.had.edges) (values_at 4 8 s (c.at + 12)) edges
-      → space poses es ms fixed ≡ taking s c (space poses ends edges fixed)
-  unfolding taking
-  takes_edge es ms k e f =
-      all_four (left_if _ _ _ poses (other 3 2 k refl)) (e ∙ taken_if _ _ _ ends (eq-eqb _ 3 k))
-      (f ∙ taken_if _ _ _ edges (eq-eqb _ 3 k)) (left_if _ _ _ fixed (other 3 4 k refl))
-
-  pub takes_fixed : (fs : List ℕ) → kind_at s c.at ≡ 4 → fs ≡ pasted c.had.fixed (values_at 4 1 s (c.at + 4)) fixed
-      → space poses ends edges fs ≡ taking s c (space poses ends edges fixed)
-  unfolding taking
-  takes_fixed fs k e =
-      all_four (left_if _ _ _ poses (other 4 2 k refl)) (left_if _ _ _ ends (other 4 3 k refl))
-      (left_if _ _ _ edges (other 4 3 k refl)) (e ∙ taken_if _ _ _ fixed (eq-eqb _ 4 k))
-
-  pub takes_none : (kind_at s c.at ≡ 2 → ⊥) → (kind_at s c.at ≡ 3 → ⊥) → (kind_at s c.at ≡ 4 → ⊥)
-      → space poses ends edges fixed ≡ taking s c (space poses ends edges fixed)
-  unfolding taking
-  takes_none a b d =
-      all_four (left_if _ _ _ poses (ne_eqb _ 2 a)) (left_if _ _ _ ends (ne_eqb _ 3 b))
-      (left_if _ _ _ edges (ne_eqb _ 3 b)) (left_if _ _ _ fixed (ne_eqb _ 4 d))
 
 -- ---- what is held at a cursor: the job read so far, from the start of each list on
 
@@ -188,7 +147,7 @@ more : (b : Bool) (p n : ℕ) (xs ys l : List ℕ) → length xs ≡ p → lengt
 more b p n xs ys l e f h = let z = length_if b n ys f in pasted_more 0 p xs (numbers_if b ys) l (omega arith) (omega arith)
 
 -- over one record
-module _ {room : Tally} {s : List ℕ} {l₀ : Space} {c : Cursor} {l : Space} (h : Held room s l₀ c l) (d : Cursor) (e : record_step room s c ≡ step.On d) where
+module _ {room : Tally} {s : List ℕ} {l₀ : Space} {c : Cursor} {l : Space} (h : Held room s l₀ c l) (d : Cursor) (e : record_step room s c ≡ Ok (Some d)) where
   abbrev k : ℕ
   k = kind_at s c.at
 
@@ -221,7 +180,7 @@ module _ {room : Tally} {s : List ℕ} {l₀ : Space} {c : Cursor} {l : Space} (
       let j = h.seen.job in
       let q : Held room s l₀ (behind s c) m =
       record {
-        seen = seen_on h.seen (behind s c) (e ∙ ap step.On w);
+        seen = seen_on h.seen (behind s c) (e ∙ ap (λ (x : Cursor). Ok (Some x)) w);
         room_is = h.room_is;
         room_poses = fits_poses;
         room_edges = fits_edges;
@@ -266,13 +225,24 @@ module _ {room : Tally} {s : List ℕ} {l₀ : Space} {c : Cursor} {l : Space} (
   pub same_room : room ≡ room_in l
   same_room = h.room_is ∙ sym (let n = same_lengths in rw (n.0, n.1, n.2, n.3))
 
-  pub may_take : (d : Cursor) → record_step room s c ≡ step.On d → (d.last ≡ kind_at s c.at) × (fault_of (room_in l) s c ≡ verdict.Fine)
-  may_take d e =
-      let w = went_on room s c d e in
-      (ap (λ (x : Cursor). x.last) w.is, subst (λ (r : Tally). fault_of r s c ≡ verdict.Fine) same_room w.fine)
+  fine_here : (d : Cursor) → record_step room s c ≡ Ok (Some d) → fault_of (room_in l) s c ≡ Ok tt
+  fine_here d e = subst (λ (r : Tally). fault_of r s c ≡ Ok tt) same_room (went_on room s c d e).fine
 
-  pub held_done : record_step room s c ≡ step.Done → l ≡ filled_by (reading room s) l₀
+  pub kind_is : (d : Cursor) → record_step room s c ≡ Ok (Some d) → d.last ≡ kind_at s c.at
+  kind_is d e = ap (λ (x : Cursor). x.last) (went_on room s c d e).is
+
+  pub pose_may : (d : Cursor) → record_step room s c ≡ Ok (Some d) → d.last ≡ 2 → (c.at + 100 ≤ length s) × (12 * c.had.poses + 12 ≤ length l.poses)
+  pose_may d e k = pose_there s c l (fine_here d e) (sym (kind_is d e) ∙ k)
+
+  pub edge_may : (d : Cursor) → record_step room s c ≡ Ok (Some d) → d.last ≡ 3
+      → (c.at + 44 ≤ length s) × (2 * c.had.edges + 2 ≤ length l.ends) × (8 * c.had.edges + 8 ≤ length l.edges)
+  edge_may d e k = edge_there s c l (fine_here d e) (sym (kind_is d e) ∙ k)
+
+  pub fixed_may : (d : Cursor) → record_step room s c ≡ Ok (Some d) → d.last ≡ 4 → (c.at + 8 ≤ length s) × (c.had.fixed + 1 ≤ length l.fixed)
+  fixed_may d e k = fixed_there s c l (fine_here d e) (sym (kind_is d e) ∙ k)
+
+  pub held_done : record_step room s c ≡ Ok None → l ≡ filled_by (reading room s) l₀
   held_done e = h.now ∙ sym (ap (λ (x : Reading). filled_by x l₀) (h.seen.is ∙ from_done room s c h.seen.job e))
 
-  pub never_stops : (r : Refusal) → record_step room s c ≡ step.Stop r → IsTaken (reading room s) → ⊥
+  pub never_stops : (r : Refusal) → record_step room s c ≡ Err r → IsTaken (reading room s) → ⊥
   never_stops r e t = subst IsTaken (h.seen.is ∙ from_stop room s c h.seen.job r e) t

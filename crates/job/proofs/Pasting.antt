@@ -37,17 +37,12 @@ pasted_more at p xs ys l e h =
     ∙ ap (λ (k : ℕ). drop k l) (let q : at + length xs + length ys ≡ at + length (xs ++ ys) = rw (length-append xs ys) (omega arith) in q) in
     rw (t, d, append_assoc (take at l) xs ys)
 
--- one number stored, alone and behind what was put
-set_pasted : (m : List ℕ) (p v : ℕ) → p < length m → set m p v ≡ pasted p (v ∷ []) m
+-- one number stored
+pub set_pasted : (m : List ℕ) (p v : ℕ) → p < length m → set m p v ≡ pasted p (v ∷ []) m
 unfolding pasted
 set_pasted m p v h =
     let z : p + 1 ≡ suc p = omega arith in
     rw z (set_split m p v h ∙ sym (append_assoc (take p m) (v ∷ []) (drop (suc p) m)))
-
-pub pasted_set : (at p v : ℕ) (xs l : List ℕ) → p ≡ at + length xs → p < length l → set (pasted at xs l) p v ≡ pasted at (xs ++ (v ∷ [])) l
-pasted_set at p v xs l e h =
-    let n : length (pasted at xs l) ≡ length l = length_pasted at xs l (omega arith) in
-    set_pasted (pasted at xs l) p v (omega arith) ∙ pasted_more at p xs (v ∷ []) l e (omega arith)
 
 -- records all as long as each other
 pub length_strung : (f : ℕ → List ℕ) (z n : ℕ) → ((i : ℕ) → length (f i) ≡ z) → length (strung f n) ≡ z * n

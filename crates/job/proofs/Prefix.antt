@@ -11,21 +11,19 @@ use lib.Dec.{leb}
 use lib.ListN.{length, get_or, take}
 use lib.Seq.{get_or-take, length-take-le, take_all}
 use Rattle.numbers.specs.Notation.{if_then}
-use Rattle.numbers.specs.Refusals.{or_else, ask}
-use Rattle.numbers.specs.declared.Verdict.{Verdict}
-use Rattle.numbers.specs.declared.Verdict.TheVariants as verdict
+use Rattle.numbers.specs.Refusals.{or_else, ask, Verdict}
+use Rattle.numbers.specs.declared.Refusal.{Refusal}
 use Rattle.numbers.proofs.Tests.{and_first, true_or_false}
 use Rattle.numbers.proofs.Tables.{table_ext}
 use Rattle.job_records.specs.declared.Tally.{Tally}
 use Rattle.job_records.specs.declared.Cursor.{Cursor}
-use Rattle.job_records.specs.declared.Step.{Step}
-use Rattle.job_records.specs.declared.Step.TheVariants as step
 use Rattle.job_records.specs.Bytes.{value_at, values_at}
 use Rattle.job_records.specs.Records.{kind_at, length_at, is_record, may_follow, is_full, fault_of, counted, step_from, record_step}
 use Rattle.job.specs.Format.{Job, read_at_most}
 use Rattle.job.specs.Format.{holding, read_on, read_from, reading, first_cursor, empty_job}
 use Rattle.job.proofs.Stepping.{Kind, settings, pose, edge, fixed, end, kind_of, fault_free, first, room_for_pose, room_for_edge, room_for_fixed}
 use Rattle.job.proofs.Stepping.{went_on, enough, cursor_start}
+use Rattle.std.specs.Prelude.{Option, Some, None, Result, Ok, Err}
 
 -- ---- how far a cursor that reading comes to has gone
 
@@ -81,7 +79,7 @@ passed room c k n i (fixed p q) u f r =
     })
 passed room c k n i (end p q) u f r = absurd (u p)
 
-within_on : (room : Tally) (s : List ℕ) (c d : Cursor) → Within room c → record_step room s c ≡ step.On d → Within room d
+within_on : (room : Tally) (s : List ℕ) (c d : Cursor) → Within room c → record_step room s c ≡ Ok (Some d) → Within room d
 within_on room s c d i e =
     let w = went_on room s c d e in
     let h = fault_free room s c w.fine in
@@ -140,8 +138,8 @@ module _ (room : Tally) (s : List ℕ) (b : ℕ) (most : read_at_most room ≤ b
       ∙ sym (le-ltb (length s) (c.at + 4 + length_at s c.at) (omega arith))))
 
   from_same : (c : Cursor) (v : Verdict) → c.at + 101 ≤ b → step_from (take b s) c v ≡ step_from s c v
-  from_same c (verdict.Refused r) h = refl
-  from_same c verdict.Fine h =
+  from_same c (Err r) h = refl
+  from_same c (Ok _) h =
       let z = seen in
       simp (
         lt-ltb (c.at + 4) (length (take b s)) (omega arith),
@@ -173,12 +171,12 @@ module _ (room : Tally) (s : List ℕ) (b : ℕ) (most : read_at_most room ≤ b
       ap (read_on (read_from n room (take b s)) (take b s) c j) (step_same c (near c i))
       ∙ go (record_step room s c) refl (λ (d : Cursor). same n d (holding s c.at j))
     where
-      go : (x : Step) → record_step room s c ≡ x
+      go : (x : Result (Option Cursor) Refusal) → record_step room s c ≡ x
           → ((d : Cursor) → Within room d → read_from n room (take b s) d (holding s c.at j) ≡ read_from n room s d (holding s c.at j))
           → read_on (read_from n room (take b s)) (take b s) c j x ≡ read_on (read_from n room s) s c j x
-      go step.Done e rec = refl
-      go (step.Stop r) e rec = refl
-      go (step.On d) e rec = ap (read_from n room (take b s) d) (holding_same c.at j (near c i)) ∙ rec d (within_on room s c d i e)
+      go (Ok None) e rec = refl
+      go (Err r) e rec = refl
+      go (Ok (Some d)) e rec = ap (read_from n room (take b s) d) (holding_same c.at j (near c i)) ∙ rec d (within_on room s c d i e)
 
   cut_same : reading room (take b s) ≡ reading room s
   unfolding reading

@@ -8,11 +8,11 @@ use Rattle.numbers.specs.Notation.{if_then}
 use Rattle.numbers.specs.Refusals.{refusal}
 use Rattle.numbers.specs.Walks.{table, strung}
 use Rattle.job_records.specs.declared.Tally.{Tally}
-use Rattle.job.specs.declared.Read.TheVariants as read
 use Rattle.job_records.specs.Bytes.{value_at, bytes_of, bytes_from, pasted}
 use Rattle.job_records.specs.Records.{is_record, may_follow, is_full, fault_of, record_step}
 use Rattle.job.specs.Format.{Job, record_of, encoded, holding}
 use Rattle.job.specs.Format.{Reading, taken, refused, read_from, reading, space, room_in, filled, read_into}
+use Rattle.std.specs.Prelude.{Ok, Err}
 
 -- reading, with all that it computes by
 unfoldable computed : Tally → List ℕ → Reading
@@ -218,7 +218,7 @@ room_of_unfit_length = refl
 settings_in_order :
     read_into (record_of 1 (bytes_from 4 4 (5 ∷ 6 ∷ 7 ∷ 8 ∷ []) 0) ++ record_of 4 (bytes_of 4 9) ++ end) (space (1 ∷ []) (2 ∷ []) (3 ∷ []) (4 ∷ 4 ∷ []))
     ≡ (
-      read.Job (record { limit = 5; cost_tolerance = 6; gradient_tolerance = 7; damping = 8 }) (tally 0 0 1),
+      Ok (record { limit = 5; cost_tolerance = 6; gradient_tolerance = 7; damping = 8 }, tally 0 0 1),
       space (1 ∷ []) (2 ∷ []) (3 ∷ []) (9 ∷ 4 ∷ []),
     )
 unfolding computed read_into filled pasted
@@ -226,6 +226,6 @@ settings_in_order = refl
 
 refused_changes_nothing :
     read_into (settings ++ record_of 4 (bytes_of 4 9) ++ end ++ end) (space [] [] [] (4 ∷ 4 ∷ []))
-    ≡ (read.Refused (refusal 30 32), space [] [] [] (4 ∷ 4 ∷ []))
+    ≡ (Err (refusal 30 32), space [] [] [] (4 ∷ 4 ∷ []))
 unfolding computed read_into
 refused_changes_nothing = refl

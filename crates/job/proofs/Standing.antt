@@ -13,8 +13,8 @@ use Rattle.numbers.proofs.Tables.{table_ext}
 use Rattle.job_records.specs.Bytes.{value_at, values_at, bytes_of}
 use Rattle.job_records.specs.Records.{kind_at, length_at}
 use Rattle.job.specs.Format.{record_of}
+use Rattle.job_records.proofs.Words.{length_bytes}
 use Rattle.job.proofs.Pasting.{length_strung}
-use Rattle.job.proofs.Encoding.{length_bytes_of}
 
 -- ---- a number as bytes
 
@@ -102,7 +102,7 @@ pub values_stand : {s : List ℕ} {at : ℕ} (w : ℕ) (x : ℕ → ℕ) (n : �
     → values_at w n s at ≡ table x n
 values_stand {s} {at} w x n l h =
     table_ext 0 (λ k. value_at w s (at + w * k)) x n
-    (λ k p. value_stands w (x k) (l k) (stands_each (λ q. bytes_of w (x q)) w n k (λ q. length_bytes_of w (x q)) p h))
+    (λ k p. value_stands w (x k) (l k) (stands_each (λ q. bytes_of w (x q)) w n k (λ q. length_bytes w (x q)) p h))
 
 -- ---- the header of a record, and its body
 
@@ -112,7 +112,7 @@ pub record Header (s : List ℕ) (at kind len : ℕ) : Type 0 where
   pub whole : at + 4 + len ≤ length s
 
 header_length : (a b : ℕ) → length (bytes_of 2 a ++ bytes_of 2 b) ≡ 4
-header_length a b = length-append (bytes_of 2 a) (bytes_of 2 b) ∙ omega (arith, length_bytes_of 2 a, length_bytes_of 2 b)
+header_length a b = length-append (bytes_of 2 a) (bytes_of 2 b) ∙ omega (arith, length_bytes 2 a, length_bytes 2 b)
 
 pub body_stands : (kind : ℕ) (body : List ℕ) {s : List ℕ} {at : ℕ} → Stands s at (record_of kind body) → Stands s (at + 4) body
 body_stands kind body h = stands_second (bytes_of 2 (length body) ++ bytes_of 2 kind) body 4 (header_length (length body) kind) h
@@ -126,6 +126,6 @@ header_stands kind len body e k l h =
     let head = stands_first (n ++ m) body h in
     record {
       length_is = value_stands 2 (length body) (subst (λ (x : ℕ). x < 256 ^ 2) (sym e) l) (stands_first n m head) ∙ e;
-      kind_is = value_stands 2 kind k (stands_second n m 2 (length_bytes_of 2 (length body)) head);
+      kind_is = value_stands 2 kind k (stands_second n m 2 (length_bytes 2 (length body)) head);
       whole = omega arith;
     }

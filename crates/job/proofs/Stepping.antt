@@ -3,27 +3,23 @@
 use Prim.Native.Nat.{ℕ, zero, suc, ◌+◌, ◌-◌, ◌≤◌, ◌<◌}
 use native.Mathlib.Omega.{arith}
 use mathlib.Core.Path.{◌≡◌, refl, sym, ap, subst, ◌∙◌}
-use mathlib.Core.Bool.{Bool, true, false, not, ◌&&◌}
+use mathlib.Core.Bool.{Bool, true, false, ◌&&◌}
 use mathlib.Core.Logic.{⊎_elim}
 use mathlib.Core.List.{List}
-use borrow.Author.Tests.{ltb-false, leb-true, leb-false, eqb-true, eqb-false, not-false}
-use lib.Dec.{eqb, leb}
+use borrow.Author.Tests.{eqb-true}
+use lib.Dec.{eqb}
 use lib.ListN.{length}
 use Rattle.numbers.specs.Notation.{if_then}
-use Rattle.numbers.specs.Refusals.{says}
 use Rattle.numbers.specs.declared.Refusal.{Refusal}
-use Rattle.numbers.specs.declared.Verdict.{Verdict}
-use Rattle.numbers.specs.declared.Verdict.TheVariants as verdict
-use Rattle.numbers.proofs.Tests.{and_first, and_second, neither_first, or_cases}
-use Rattle.numbers.proofs.Reading.{fault_at}
+use Rattle.numbers.proofs.Tests.{and_first, and_second, or_cases}
 use Rattle.job_records.specs.declared.Tally.{Tally}
 use Rattle.job_records.specs.declared.Cursor.{Cursor}
-use Rattle.job_records.specs.declared.Step.{Step}
-use Rattle.job_records.specs.declared.Step.TheVariants as step
-use Rattle.job_records.specs.Records.{kind_at, length_at, is_record, may_follow, is_full, record_faults}
-use Rattle.job_records.specs.Records.{fault_of, end_faults, one, behind, closed, step_from, record_step}
+use Rattle.job_records.specs.Records.{kind_at, length_at, is_record, may_follow, is_full}
+use Rattle.job_records.specs.Records.{fault_of, one, behind, record_step}
 use Rattle.job.specs.Format.{Job}
 use Rattle.job.specs.Format.{holding, Reading, taken, refused, read_on, read_from, reading, first_cursor, empty_job}
+use Rattle.std.proofs.lemmas.Grind.{common_steps}
+use Rattle.std.specs.Prelude.{Option, Some, None, Result, Ok, Err}
 
 -- ---- kinds and lengths
 
@@ -58,109 +54,61 @@ pub record FaultFree (room : Tally) (s : List ℕ) (c : Cursor) : Type 0 where
   pub whole : c.at + 4 + length_at s c.at ≤ length s
   pub room_left : is_full room c.had (kind_at s c.at) ≡ false
 
-pub fault_free : (room : Tally) (s : List ℕ) (c : Cursor) → fault_of room s c ≡ verdict.Fine → FaultFree room s c
+pub fault_free : (room : Tally) (s : List ℕ) (c : Cursor) → fault_of room s c ≡ Ok tt → FaultFree room s c
 unfolding fault_of
 fault_free room s c e =
-    let fs = record_faults room s c in
-    let ok = not-false (is_record (kind_at s c.at) (length_at s c.at) && may_follow c.last (kind_at s c.at)) (fault_at verdict.Fine fs 1 c.at e) in
     record {
-      header = ltb-false (length s) (c.at + 4) (fault_at verdict.Fine fs 0 c.at e);
-      kind = kind_of (kind_at s c.at) (length_at s c.at) (and_first _ (may_follow c.last (kind_at s c.at)) ok);
-      follows = and_second (is_record (kind_at s c.at) (length_at s c.at)) _ ok;
-      whole = ltb-false (length s) (c.at + 4 + length_at s c.at) (fault_at verdict.Fine fs 2 c.at e);
-      room_left = fault_at verdict.Fine fs 3 c.at e;
+      header = grind (arith, common_steps);
+      kind = kind_of (kind_at s c.at) (length_at s c.at) (grind (arith, common_steps));
+      follows = grind (arith, common_steps);
+      whole = grind (arith, common_steps);
+      room_left = grind (arith, common_steps);
     }
 
 -- a record that is no settings record stands behind one whose kind is no higher
 pub rises : (last kind : ℕ) → may_follow last kind ≡ true → (kind ≡ 1 → ⊥) → (0 < last) × (last ≤ kind)
 unfolding may_follow if_then
-rises last kind e h = go (eqb last 0) (eqb kind 1) refl refl e
-  where
-    go : (a b : Bool) → eqb last 0 ≡ a → eqb kind 1 ≡ b → if_then a b (not b && leb last kind) ≡ true → (0 < last) × (last ≤ kind)
-    go true true p q r = absurd (h (eqb-true kind 1 q))
-    go true false p q r = absurd (let z : ◌≡◌ {A = ℕ} 0 1 = cc in omega arith)
-    go false true p q r = absurd (let z : ◌≡◌ {A = ℕ} 0 1 = cc in omega arith)
-    go false false p q r = let n = eqb-false last 0 p in let m = leb-true last kind r in (omega arith, m)
+rises last kind e h = (grind (arith, common_steps), grind (arith, common_steps))
 
 pub first : (last kind : ℕ) → may_follow last kind ≡ true → kind ≡ 1 → last ≡ 0
 unfolding may_follow if_then
-first last kind e k = go (eqb last 0) refl (subst (λ (x : ℕ). if_then (eqb last 0) (eqb x 1) (not (eqb x 1) && leb last x) ≡ true) k e)
-  where
-    go : (a : Bool) → eqb last 0 ≡ a → if_then a (eqb 1 1) (not (eqb 1 1) && leb last 1) ≡ true → last ≡ 0
-    go true p r = eqb-true last 0 p
-    go false p r = absurd (let z : ◌≡◌ {A = ℕ} 0 1 = cc in omega arith)
+first last kind e k = grind (arith, common_steps)
 
 -- there is room for one more of each kind
 pub room_for_pose : (room had : Tally) (kind : ℕ) → is_full room had kind ≡ false → kind ≡ 2 → had.poses < room.poses
 unfolding is_full
-room_for_pose room had kind e k =
-    leb-false room.poses had.poses (neither_first (leb room.poses had.poses) _ (subst (λ (x : ℕ). is_full room had x ≡ false) k e))
+room_for_pose room had kind e k = grind (arith, common_steps)
 
 pub room_for_edge : (room had : Tally) (kind : ℕ) → is_full room had kind ≡ false → kind ≡ 3 → had.edges < room.edges
 unfolding is_full
-room_for_edge room had kind e k =
-    leb-false room.edges had.edges (neither_first (leb room.edges had.edges) _ (subst (λ (x : ℕ). is_full room had x ≡ false) k e))
+room_for_edge room had kind e k = grind (arith, common_steps)
 
 pub room_for_fixed : (room had : Tally) (kind : ℕ) → is_full room had kind ≡ false → kind ≡ 4 → had.fixed < room.fixed
 unfolding is_full
-room_for_fixed room had kind e k = leb-false room.fixed had.fixed (subst (λ (x : ℕ). is_full room had x ≡ false) k e)
+room_for_fixed room had kind e k = grind (arith, common_steps)
 
 -- ---- steps
 
 pub record WentOn (room : Tally) (s : List ℕ) (c d : Cursor) : Type 0 where
-  pub fine : fault_of room s c ≡ verdict.Fine
+  pub fine : fault_of room s c ≡ Ok tt
   pub no_end : kind_at s c.at ≡ 5 → ⊥
   pub is : d ≡ behind s c
 
 pub record AtEnd (room : Tally) (s : List ℕ) (c : Cursor) : Type 0 where
-  pub fine : fault_of room s c ≡ verdict.Fine
+  pub fine : fault_of room s c ≡ Ok tt
   pub end : kind_at s c.at ≡ 5
   pub last : length s ≡ c.at + 4
 
-closed_on : (v : Verdict) (d : Cursor) → closed v ≡ step.On d → ⊥
-closed_on verdict.Fine d e = let z : ◌≡◌ {A = ℕ} 0 1 = cc in omega arith
-closed_on (verdict.Refused r) d e = let z : ◌≡◌ {A = ℕ} 0 1 = cc in omega arith
-
-closed_done : (v : Verdict) → closed v ≡ step.Done → v ≡ verdict.Fine
-closed_done verdict.Fine e = refl
-closed_done (verdict.Refused r) e = absurd (let z : ◌≡◌ {A = ℕ} 0 1 = cc in omega arith)
-
-on_is : (x y : Cursor) → step.On x ≡ step.On y → y ≡ x
-on_is x y e = cc
-
-pub went_on : (room : Tally) (s : List ℕ) (c d : Cursor) → record_step room s c ≡ step.On d → WentOn room s c d
+pub went_on : (room : Tally) (s : List ℕ) (c d : Cursor) → record_step room s c ≡ Ok (Some d) → WentOn room s c d
 unfolding record_step if_then
-went_on room s c d e = go (fault_of room s c) (eqb (kind_at s c.at) 5) refl refl e
-  where
-    go : (v : Verdict) (b : Bool) → fault_of room s c ≡ v → eqb (kind_at s c.at) 5 ≡ b → step_from s c v ≡ step.On d → WentOn room s c d
-    go (verdict.Refused r) b p q x = absurd (let z : ◌≡◌ {A = ℕ} 0 1 = cc in omega arith)
-    go verdict.Fine true p q x =
-        absurd (closed_on (says (end_faults s) (c.at + 4)) d
-        (subst (λ (y : Bool). if_then y (closed (says (end_faults s) (c.at + 4))) (step.On (behind s c)) ≡ step.On d) q x))
-    go verdict.Fine false p q x =
-        record {
-          fine = p;
-          no_end = eqb-false (kind_at s c.at) 5 q;
-          is = on_is (behind s c) d (subst (λ (y : Bool). if_then y (closed (says (end_faults s) (c.at + 4))) (step.On (behind s c)) ≡ step.On d) q x);
-        }
+went_on room s c d e = record { fine = grind (arith, common_steps); no_end = grind (arith, common_steps); is = grind (arith, common_steps) }
 
-pub ended : (room : Tally) (s : List ℕ) (c : Cursor) → record_step room s c ≡ step.Done → AtEnd room s c
+pub ended : (room : Tally) (s : List ℕ) (c : Cursor) → record_step room s c ≡ Ok None → AtEnd room s c
 unfolding record_step if_then
-ended room s c e = go (fault_of room s c) (eqb (kind_at s c.at) 5) refl refl e
-  where
-    go : (v : Verdict) (b : Bool) → fault_of room s c ≡ v → eqb (kind_at s c.at) 5 ≡ b → step_from s c v ≡ step.Done → AtEnd room s c
-    go (verdict.Refused r) b p q x = absurd (let z : ◌≡◌ {A = ℕ} 0 1 = cc in omega arith)
-    go verdict.Fine false p q x =
-        let y : step.On (behind s c) ≡ step.Done =
-        subst (λ (y : Bool). if_then y (closed (says (end_faults s) (c.at + 4))) (step.On (behind s c)) ≡ step.Done) q x in
-        absurd (let z : ◌≡◌ {A = ℕ} 0 1 = cc in omega arith)
-    go verdict.Fine true p q x =
-        let v = closed_done (says (end_faults s) (c.at + 4))
-        (subst (λ (y : Bool). if_then y (closed (says (end_faults s) (c.at + 4))) (step.On (behind s c)) ≡ step.Done) q x) in
-        let h = fault_free room s c p in
-        let l = ltb-false (c.at + 4) (length s) (fault_at verdict.Fine (end_faults s) 0 (c.at + 4) v) in
-        let m = h.header in
-        record { fine = p; end = eqb-true (kind_at s c.at) 5 q; last = omega arith }
+ended room s c e =
+    let f : fault_of room s c ≡ (Ok tt) = grind (arith, common_steps) in
+    let h = (fault_free room s c f).header in
+    record { fine = f; end = grind (arith, common_steps); last = grind (arith, common_steps) }
 
 -- ---- a cursor that goes on
 
@@ -173,7 +121,7 @@ one_most false = omega arith
 abbrev pub CursorIn : List ℕ → Cursor → Type 0
 CursorIn s c = (c.at ≤ length s) × (c.had.poses ≤ c.at) × (c.had.edges ≤ c.at) × (c.had.fixed ≤ c.at)
 
-pub cursor_on : (room : Tally) (s : List ℕ) (c d : Cursor) → CursorIn s c → record_step room s c ≡ step.On d → CursorIn s d × (c.at < d.at)
+pub cursor_on : (room : Tally) (s : List ℕ) (c d : Cursor) → CursorIn s c → record_step room s c ≡ Ok (Some d) → CursorIn s d × (c.at < d.at)
 cursor_on room s c d i e =
     let w = went_on room s c d e in
     let h = (fault_free room s c w.fine).whole in
@@ -195,13 +143,13 @@ module _ (room : Tally) (s : List ℕ) where
   enough (suc n) (suc m) c j i p q =
       go (record_step room s c) refl (λ (d : Cursor). enough n m d (holding s c.at j))
     where
-      go : (x : Step) → record_step room s c ≡ x
+      go : (x : Result (Option Cursor) Refusal) → record_step room s c ≡ x
           → ((d : Cursor) → CursorIn s d → length s - d.at < n → length s - d.at < m
           → read_from n room s d (holding s c.at j) ≡ read_from m room s d (holding s c.at j))
           → read_on (read_from n room s) s c j x ≡ read_on (read_from m room s) s c j x
-      go step.Done e rec = refl
-      go (step.Stop r) e rec = refl
-      go (step.On d) e rec =
+      go (Ok None) e rec = refl
+      go (Err r) e rec = refl
+      go (Ok (Some d)) e rec =
           let w = cursor_on room s c d i e in
           let a = w.1 in let b = w.0.0 in
           rec d w.0 (omega arith) (omega arith)
@@ -214,7 +162,7 @@ module _ (room : Tally) (s : List ℕ) where
   unfolding reading
   from_start = enough (suc (length s)) (suc (length s - 0)) first_cursor empty_job (cursor_start s) (omega arith) (omega arith)
 
-  pub from_on : (c d : Cursor) (j : Job) → CursorIn s c → record_step room s c ≡ step.On d → from c j ≡ from d (holding s c.at j)
+  pub from_on : (c d : Cursor) (j : Job) → CursorIn s c → record_step room s c ≡ Ok (Some d) → from c j ≡ from d (holding s c.at j)
   unfolding read_from
   from_on c d j i e =
       let w = cursor_on room s c d i e in
@@ -222,10 +170,10 @@ module _ (room : Tally) (s : List ℕ) where
       ap (read_on (read_from (length s - c.at) room s) s c j) e
       ∙ enough (length s - c.at) (suc (length s - d.at)) d (holding s c.at j) w.0 (omega arith) (omega arith)
 
-  pub from_done : (c : Cursor) (j : Job) → record_step room s c ≡ step.Done → from c j ≡ taken c.had j
+  pub from_done : (c : Cursor) (j : Job) → record_step room s c ≡ Ok None → from c j ≡ taken c.had j
   unfolding read_from
   from_done c j e = ap (read_on (read_from (length s - c.at) room s) s c j) e
 
-  pub from_stop : (c : Cursor) (j : Job) (r : Refusal) → record_step room s c ≡ step.Stop r → from c j ≡ refused r
+  pub from_stop : (c : Cursor) (j : Job) (r : Refusal) → record_step room s c ≡ Err r → from c j ≡ refused r
   unfolding read_from
   from_stop c j r e = ap (read_on (read_from (length s - c.at) room s) s c j) e

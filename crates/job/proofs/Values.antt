@@ -1,71 +1,39 @@
--- The laws of numbers in bytes: one byte more in front of a number, how large a number is, one number more behind numbers taken. Assumes nothing.
-use Prim.Native.Nat.{ℕ, suc, ◌+◌, ◌*◌, ◌-◌, ◌^◌, ◌<◌, ◌≤◌}
+-- Numbers read out of bytes and put into a part of a list, and numbers of a part of a list as bytes. Assumes nothing.
+use Prim.Native.Nat.{ℕ, ◌+◌, ◌*◌, ◌-◌, ◌<◌, ◌≤◌}
 use native.Mathlib.Omega.{arith}
-use native.Mathlib.Nat.{pow-zero, pow-suc, pow-le-pow_right}
-use native.Mathlib.Numerals.{add-one}
-use mathlib.Core.Path.{◌≡◌, refl, sym, ap, ◌∙◌}
+use native.Mathlib.Nat.{add-zero, mul-zero}
+use mathlib.Core.Path.{◌≡◌, ap}
 use mathlib.Core.List.{List}
-use lib.Dec.{lit<}
-use lib.ListN.{length, get_or, set, length-set}
-use Rattle.numbers.specs.Walks.{table}
+use lib.ListN.{length, get_or, set, length-take, length-drop}
+use borrow.Rule.Slice.PartMut.{put_mid, mid_of}
+use Rattle.numbers.specs.Walks.{table, strung}
 use Rattle.numbers.proofs.Tables.{length_table}
-use Rattle.job_records.specs.Bytes.{value_at, values_at, pasted}
-use Rattle.job.proofs.Pasting.{pasted_none, pasted_set}
+use Rattle.job_records.specs.Bytes.{value_at, values_at, bytes_of, bytes_from, pasted}
+use Rattle.job_records.proofs.Words.{part_get, put_pasted}
+use Rattle.job.proofs.Pasting.{set_pasted, pasted_none}
+use Rattle.job.proofs.Bytewise.{strung_ext}
 
--- ---- a number of w bytes from a place on, of which those from the i-th on were read
+-- as many numbers as a part is long, put into it
+pub numbers_taken : (w p n : ℕ) (s : List ℕ) (at m : ℕ) (l xs : List ℕ) → xs ≡ values_at w m s at → m ≡ n
+    → put_mid p (p + n - p) l xs ≡ pasted p (values_at w n s at) l
+numbers_taken w p n s at m l xs e q = put_pasted p (p + n - p) n l xs (values_at w n s at) (rw q at e) (length_table _ n) (omega arith)
 
-abbrev pub ReadFrom : List ℕ → ℕ → ℕ → ℕ → ℕ → Type 0
-ReadFrom s at w i r = (i ≤ w) × (r ≡ value_at (w - i) s (at + i)) × (r < 256 ^ (w - i))
+pub number_taken : (w p v : ℕ) (s : List ℕ) (at : ℕ) (l : List ℕ) → p < length l → v ≡ value_at w s at → set l p v ≡ pasted p (values_at w 1 s at) l
+unfolding table
+number_taken w p v s at l h e = let z : at + w * 0 ≡ at = omega (arith, mul-zero w) in rw (z, e) (set_pasted l p (value_at w s at) h)
 
-pub read_none : (s : List ℕ) (at w : ℕ) → ReadFrom s at w w 0
-unfolding value_at
-read_none s at w =
-    let z : w - w ≡ 0 = omega arith in
-    (omega arith, rw z, rw (z, pow-zero) (lit< tt))
+-- the numbers of a part, as bytes
+pub part_bytes : (w a n : ℕ) (l : List ℕ) → a + n ≤ length l
+    → strung (λ i. bytes_of w (get_or (mid_of a (a + n - a) l) i 0)) (length (mid_of a (a + n - a) l)) ≡ bytes_from w n l a
+part_bytes w a n l h =
+    let d : a + n - a ≡ n = omega arith in
+    let k : length (mid_of a n l) ≡ n = simp (length-take, length-drop) (omega arith) in
+    rw (d, k)
+    (strung_ext (λ i. bytes_of w (get_or (mid_of a n l) i 0)) (λ i. bytes_of w (get_or l (a + i) 0)) n (λ i q. ap (bytes_of w) (part_get a n i l q)))
 
-module _ (s : List ℕ) (at w i r b : ℕ) (pos : 0 < i) (done : ReadFrom s at w i r) where
-  one_fewer : w - (i - 1) ≡ suc (w - i)
-  one_fewer = omega arith
+pub one_number : (w i : ℕ) (l : List ℕ) → bytes_of w (get_or l i 0) ≡ bytes_from w 1 l i
+unfolding strung
+one_number w i l = rw (add-zero i)
 
-  below : b < 256 → r * 256 + b < 256 ^ (w - (i - 1))
-  below h = rw (one_fewer, pow-suc) (omega arith)
-
-  pub read_more : b ≡ get_or s (at + (i - 1)) 0 → b < 256 → ReadFrom s at w (i - 1) (r * 256 + b)
-  unfolding value_at
-  read_more e h =
-      let a : suc (at + (i - 1)) ≡ at + i = omega arith in
-      (omega arith, rw (one_fewer, a, ← done.1, e) (omega arith), below h)
-
-  pub read_fits : w ≤ 8 → b < 256 → r * 256 + b < 18446744073709551616
-  read_fits le h =
-      let l : 256 ^ (w - (i - 1)) ≤ 256 ^ 8 = pow-le-pow_right {n = 256} (lit< tt) {i = w - (i - 1)} {j = 8} (omega arith) in
-      omega (arith, below h)
-
-pub read_all : (s : List ℕ) (at w i r : ℕ) → i ≤ 0 → ReadFrom s at w i r → (r ≡ value_at w s at) × (r < 256 ^ w)
-read_all s at w i r z done =
-    let p : w - i ≡ w = omega arith in
-    let q : at + i ≡ at = omega arith in
-    (rw (p, q) at done.1, rw p at done.2)
-
--- ---- n numbers of w bytes taken into a list, of which i were
-
-abbrev pub Taken : ℕ → List ℕ → ℕ → List ℕ → ℕ → ℕ → List ℕ → ℕ → Type 0
-Taken w s at to₀ from n to i = (i ≤ n) × (length to ≡ length to₀) × (to ≡ pasted from (values_at w i s at) to₀)
-
-module _ (w : ℕ) (s : List ℕ) (at : ℕ) (to₀ : List ℕ) (from n : ℕ) where
-  pub taken_none : Taken w s at to₀ from n to₀ 0
-  unfolding table
-  taken_none = (omega arith, refl, sym (pasted_none from to₀))
-
-  module _ (to : List ℕ) (i : ℕ) (done : Taken w s at to₀ from n to i) where
-    pub taken_more : i < n → from + n ≤ length to₀ → (v : ℕ) → v ≡ value_at w s (at + w * i) → Taken w s at to₀ from n (set to (from + i) v) (i + 1)
-    unfolding table
-    taken_more l h v e =
-        let k : length (values_at w i s at) ≡ i = length_table (λ j. value_at w s (at + w * j)) i in (
-          omega arith,
-          simp length-set done.1,
-          rw (add-one i, done.2, e) (pasted_set from (from + i) (value_at w s (at + w * i)) (values_at w i s at) to₀ (omega arith) (omega arith)),
-        )
-
-    pub taken_all : n ≤ i → to ≡ pasted from (values_at w n s at) to₀
-    taken_all l = let e : i ≡ n = omega arith in done.2 ∙ ap (λ k. pasted from (values_at w k s at) to₀) e
+-- what the numbers of a record make of the lists that they are put into
+pub ruleset taking_steps = (numbers_taken, number_taken, pasted_none)

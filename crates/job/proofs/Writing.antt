@@ -1,37 +1,28 @@
 -- What the writer's stores and calls make of the output: one byte, one record and one part of the job after the other. Assumes nothing.
-use Prim.Native.Nat.{ℕ, ◌+◌, ◌*◌, ◌-◌, ◌/◌, ◌%◌, ◌≤◌, ◌<◌}
+use Prim.Native.Nat.{ℕ, ◌+◌, ◌*◌, ◌%◌, ◌≤◌, ◌<◌}
 use native.Mathlib.Omega.{arith}
 use native.Mathlib.Nat.{mul-le-mul_left}
 use native.Mathlib.Numerals.{add-one}
 use mathlib.Core.Path.{◌≡◌, refl, sym, ap, ◌∙◌}
-use mathlib.Core.Bool.{Bool, true, false, not, ◌||◌, or-false}
+use mathlib.Core.Bool.{Bool, false, not, ◌||◌, or-false}
 use mathlib.Core.List.{List, [], ◌∷◌, ◌++◌, append-nil}
 use lib.Dec.{ltb, eqb}
-use borrow.Author.Tests.{ltb-true, ltb-false, lt-ltb, le-ltb, eq-eqb, eqb-true, not-false}
-use lib.ListN.{length, get_or, set, length-append}
+use borrow.Author.Tests.{ltb-false, eq-eqb}
+use lib.ListN.{length, length-append}
 use Rattle.numbers.specs.Walks.{strung}
+use Rattle.numbers.specs.declared.Refusal.{Refusal}
 use Rattle.job_records.specs.Bytes.{bytes_of, bytes_from, pasted}
 use Rattle.job.specs.Format.{Job, tally_of, record_of, settings_record, pose_record, edge_record, fixed_record, encoded, size_of}
 use Rattle.job.specs.Writer.{write_rows, written_as, written_into}
 use Rattle.job_records.specs.declared.Tally.{Tally}
-use Rattle.job.specs.declared.Written.{Written}
-use Rattle.job.specs.declared.Written.TheVariants as written
-use Rattle.numbers.specs.Refusals.{refusal, fault, verdict}
-use Rattle.numbers.specs.declared.Verdict.{Verdict}
-use Rattle.numbers.specs.declared.Verdict.TheVariants as verdict
+use Rattle.numbers.specs.Refusals.{fault, verdict, Verdict}
 use Rattle.numbers.proofs.Reading.{row_at, row_fault}
 use Rattle.rows.specs.Tests.{unfit}
-use Rattle.job.proofs.Pasting.{pasted_more, pasted_set, length_pasted, length_strung}
-use Rattle.job.proofs.Encoding.{shifted, length_encoded, length_bytes_of, bytes_of_more, length_bytes_from, length_poses, length_edges, length_fixed}
+use Rattle.job_records.proofs.Words.{length_bytes}
+use Rattle.job.proofs.Pasting.{pasted_more, length_pasted, length_strung}
+use Rattle.job.proofs.Encoding.{length_encoded, length_bytes_from, length_poses, length_edges, length_fixed}
 use Rattle.job.proofs.Encoding.{length_settings_record, length_pose_record, length_edge_record, length_fixed_record}
-
--- one byte more
-pub byte_put : (i at x rest : ℕ) (l m : List ℕ) → at + i < length m → rest ≡ shifted i x → l ≡ pasted at (bytes_of i x) m →
-    set l (at + i) (rest % 256) ≡ pasted at (bytes_of (i + 1) x) m
-byte_put i at x rest l m h r e =
-    rw (e, r, add-one i)
-    (let n = length_bytes_of i x in
-    pasted_set at (at + i) (shifted i x % 256) (bytes_of i x) m (omega arith) h ∙ ap (λ (t : List ℕ). pasted at t m) (bytes_of_more i x))
+use Rattle.std.specs.Prelude.{Result, Ok, Err}
 
 -- a turn of n, and room for what it puts
 pub turn_fits : (z i n at m : ℕ) → i < n → at + z * n ≤ m → (i + 1 ≤ n) × (at + z * i + z ≤ m)
@@ -48,24 +39,18 @@ part_put f z i at l m h s e =
     let k : length (f i) ≡ z = h i in
     rw (e, add-one i) (pasted_more at (at + z * i) (strung f i) (f i) m (omega arith) (omega arith))
 
--- one number more
-pub number_put : (w i at from : ℕ) (ns l m : List ℕ) → at + w * i + w ≤ length m → l ≡ pasted at (bytes_from w i ns from) m →
-    pasted (at + w * i) (bytes_of w (get_or ns (from + i) 0)) l ≡ pasted at (bytes_from w (i + 1) ns from) m
-number_put w i at from ns l m h e =
-    part_put (λ k. bytes_of w (get_or ns (from + k) 0)) w i at l m (λ k. length_bytes_of w (get_or ns (from + k) 0)) h e
-
 -- a record's header, its length before its kind
 pub header_put : (at n kind : ℕ) (l : List ℕ) → at + 4 ≤ length l →
     pasted (at + 2) (bytes_of 2 kind) (pasted at (bytes_of 2 n) l) ≡ pasted at (bytes_of 2 n ++ bytes_of 2 kind) l
 header_put at n kind l h =
-    let p = length_bytes_of 2 n in let q = length_bytes_of 2 kind in
+    let p = length_bytes 2 n in let q = length_bytes 2 kind in
     pasted_more at (at + 2) (bytes_of 2 n) (bytes_of 2 kind) l (omega arith) (omega arith)
 
 -- a record's header, and its body behind it
 pub record_put : (kind n at : ℕ) (body l : List ℕ) → length body ≡ n → at + 4 + n ≤ length l →
     pasted (at + 4) body (pasted at (bytes_of 2 n ++ bytes_of 2 kind) l) ≡ pasted at (record_of kind body) l
 record_put kind n at body l e h =
-    let k : length (bytes_of 2 n ++ bytes_of 2 kind) ≡ 4 = simp (length-append, length_bytes_of) in
+    let k : length (bytes_of 2 n ++ bytes_of 2 kind) ≡ 4 = simp (length-append, length_bytes) in
     pasted_more at (at + 4) (bytes_of 2 n ++ bytes_of 2 kind) body l (omega arith) (omega arith)
     ∙ ap (λ (t : ℕ). pasted at (bytes_of 2 t ++ bytes_of 2 kind ++ body) l) (sym e)
 
@@ -90,7 +75,7 @@ edge_put ends edges at i l m n h e =
     let p : length x ≡ 8 = length_bytes_from 4 2 ends (2 * i) in
     let q : length y ≡ 32 = length_bytes_from 4 8 edges (8 * i) in
     let r : length (x ++ y) ≡ 40 = rw (length-append x y) (omega arith) in
-    let s : length (bytes_of 2 40 ++ bytes_of 2 3) ≡ 4 = simp (length-append, length_bytes_of) in
+    let s : length (bytes_of 2 40 ++ bytes_of 2 3) ≡ 4 = simp (length-append, length_bytes) in
     let t : length k ≡ length l = length_pasted (at + 44 * i) (bytes_of 2 40 ++ bytes_of 2 3) l (omega arith) in
     pasted_more (at + 44 * i + 4) (at + 44 * i + 12) x y k (omega arith) (omega arith)
     ∙ record_put 3 40 (at + 44 * i) (x ++ y) l r (omega arith)
@@ -128,7 +113,7 @@ parts_put j l h =
     let u : length P ≡ 100 * (tally_of j).poses = length_poses j.poses (tally_of j).poses in
     let v : length E ≡ 44 * (tally_of j).edges = length_edges j.ends j.edges (tally_of j).edges in
     let w : length F ≡ 8 * (tally_of j).fixed = length_fixed j.fixed (tally_of j).fixed in
-    let z : length Z ≡ 4 = simp (length-append, length_bytes_of) in
+    let z : length Z ≡ 4 = simp (length-append, length_bytes) in
     let sp : length (S ++ P) ≡ a = rw (length-append S P) (omega arith) in
     let spe : length (S ++ P ++ E) ≡ b = rw (length-append (S ++ P) E) (omega arith) in
     let spef : length (S ++ P ++ E ++ F) ≡ d = rw (length-append (S ++ P ++ E) F) (omega arith) in
@@ -147,36 +132,12 @@ pub job_put : (j : Job) (t : Tally) (l : List ℕ) → t ≡ tally_of j → size
 job_put j t l e h = rw e (parts_put j l (rw e at h))
 
 -- a tally, number by number
-pub tally_is : {t u : Tally} → t ≡ u → (t.poses ≡ u.poses) × (t.edges ≡ u.edges) × (t.fixed ≡ u.fixed)
+tally_is : {t u : Tally} → t ≡ u → (t.poses ≡ u.poses) × (t.edges ≡ u.edges) × (t.fixed ≡ u.fixed)
 tally_is e = (ap (λ (x : Tally). x.poses) e, ap (λ (x : Tally). x.edges) e, ap (λ (x : Tally). x.fixed) e)
 
--- each part of a job fits: into an output that is long enough, and its numbers are there
-module _ (j : Job) (t : Tally) (n m : ℕ) (e : t ≡ tally_of j) (h : size_of t ≤ n) (k : m ≡ n) where
-  pub poses_fit : (20 + 100 * t.poses ≤ m) × (12 * t.poses ≤ length j.poses)
-  poses_fit = let i = tally_is e in (omega arith, omega arith)
-
-  pub edges_fit : (20 + 100 * t.poses + 44 * t.edges ≤ m) × (2 * t.edges ≤ length j.ends)
-  edges_fit = let i = tally_is e in (omega arith, omega arith)
-
-  pub fixed_fit : 20 + 100 * t.poses + 44 * t.edges + 8 * length j.fixed ≤ m
-  fixed_fit = let i = tally_is e in omega arith
-
-  pub end_fits : 20 + 100 * t.poses + 44 * t.edges + 8 * length j.fixed + 4 ≤ m
-  end_fits = let i = tally_is e in omega arith
-
-  pub size_is : 20 + 100 * t.poses + 44 * t.edges + 8 * length j.fixed + 4 ≡ size_of t
-  size_is = let i = tally_is e in omega arith
-
--- ---- whether the output is too short
-
-same_test : (a b c d : ℕ) (t : Bool) → ltb a b ≡ t → (a < b → c < d) → (b ≤ a → d ≤ c) → ltb a b ≡ ltb c d
-same_test a b c d true e f g = e ∙ sym (lt-ltb c d (f (ltb-true a b e)))
-same_test a b c d false e f g = e ∙ sym (le-ltb c d (g (ltb-false a b e)))
-
-pub last_test : (n p e f : ℕ) → 24 ≤ n → p ≤ (n - 24) / 100 → e ≤ (n - 24 - 100 * p) / 44 →
-    ltb ((n - 24 - 100 * p - 44 * e) / 8) f ≡ ltb n (24 + 100 * p + 44 * e + 8 * f)
-last_test n p e f a b c =
-    same_test ((n - 24 - 100 * p - 44 * e) / 8) f n (24 + 100 * p + 44 * e + 8 * f) _ refl (λ h. omega arith) (λ h. omega arith)
+-- the bytes of a job, part by part
+pub size_is : (j : Job) (t : Tally) → t ≡ tally_of j → 20 + 100 * t.poses + 44 * t.edges + 8 * length j.fixed + 4 ≡ size_of t
+size_is j t e = let i = tally_is e in omega arith
 
 -- ---- the answer
 
@@ -188,47 +149,28 @@ unfit_is : (p e g : ℕ) → unfit p e g p ≡ misfit p e g
 unfolding unfit
 unfit_is p e g = rw (eq-eqb p p refl, or-false (not (eqb g (4 * e))))
 
-last_false : (a b : Bool) → a || b ≡ false → b ≡ false
-last_false true b e = cc
-last_false false b e = e
-
-pub eight_each : (p e g : ℕ) → misfit p e g ≡ false → 8 * (e / 2) ≤ g
-eight_each p e g h =
-    let r = last_false (not (eqb (p % 12) 0)) (not (eqb (e % 2) 0) || not (eqb g (4 * e))) h in
-    let t = eqb-true g (4 * e) (not-false (eqb g (4 * e)) (last_false (not (eqb (e % 2) 0)) (not (eqb g (4 * e))) r)) in
-    omega arith
-
--- as the writer's own tests say: the counts do not fit, the output is too short, or neither
-module _ (j : Job) (out : List ℕ) where
-  pub written_unfit : misfit (length j.poses) (length j.ends) (length j.edges) ≡ true → (written.Refused (refusal 2 0), out) ≡ written_into j out
-  unfolding written_into
-  written_unfit u = rw (unfit_is (length j.poses) (length j.ends) (length j.edges) ∙ u)
-
-  pub written_short : misfit (length j.poses) (length j.ends) (length j.edges) ≡ false → ltb (length out) (size_of (tally_of j)) ≡ true →
-      (written.Refused (refusal 36 0), out) ≡ written_into j out
-  unfolding written_into
-  written_short u s = rw (unfit_is (length j.poses) (length j.ends) (length j.edges) ∙ u, length_encoded j, s)
-
-  pub written_whole : misfit (length j.poses) (length j.ends) (length j.edges) ≡ false → ltb (length out) (size_of (tally_of j)) ≡ false →
-      (written.Bytes (size_of (tally_of j)), pasted 0 (encoded j) out) ≡ written_into j out
-  unfolding written_into
-  written_whole u s =
-      let r : ltb (length out) (length (encoded j)) ≡ false = rw (length_encoded j) s in
-      rw (unfit_is (length j.poses) (length j.ends) (length j.edges) ∙ u, r, length_encoded j)
+-- where the counts fit and the output is long enough
+pub written_whole : (j : Job) (out : List ℕ) → misfit (length j.poses) (length j.ends) (length j.edges) ≡ false →
+    ltb (length out) (size_of (tally_of j)) ≡ false → (Ok (size_of (tally_of j)), pasted 0 (encoded j) out) ≡ written_into j out
+unfolding written_into
+written_whole j out u s =
+    let r : ltb (length out) (length (encoded j)) ≡ false = rw (length_encoded j) s in
+    rw (unfit_is (length j.poses) (length j.ends) (length j.edges) ∙ u, r, length_encoded j)
 
 -- as many bytes as the writer says it wrote stand in the output
-abbrev pub Within : Written × List ℕ → Type 0
-Within (written.Bytes n, out) = n ≤ length out
-Within (written.Refused r, out) = Unit {0}
+abbrev pub Within : Result ℕ Refusal × List ℕ → Type 0
+Within (Ok n, out) = n ≤ length out
+Within (Err r, out) = Unit {0}
 
 pub written_within : (j : Job) (out : List ℕ) → Within (written_into j out)
 unfolding written_into
 written_within j out = go (verdict (write_rows j out)) refl
   where
     go : (v : Verdict) → verdict (write_rows j out) ≡ v → Within (written_as j out v)
-    go (verdict.Refused r) e = tt
-    go verdict.Fine e =
-        let rest = row_at verdict.Fine (write_rows j out) 1 e in
-        let h = ltb-false (length out) (length (encoded j)) (row_fault (fault 36 (λ _. ltb (length out) (length (encoded j))) ∷ []) 1 0 0 rest (omega arith)) in
+    go (Err r) e = tt
+    go (Ok _) e =
+        let rest = row_at (Ok tt) (write_rows j out) 1 e in
+        let f = fault 36 (λ _. ltb (length out) (length (encoded j))) in
+        let h = ltb-false (length out) (length (encoded j)) (row_fault (f ∷ []) 1 0 0 rest (omega arith)) in
         let n = length_pasted 0 (encoded j) out (omega arith) in
         omega arith

@@ -1,6 +1,6 @@
 -- The job file: document 02, Wish 1. What a job is, as numbers and as bytes, and what reading answers.
 -- A number is a bit pattern here, and no float is looked at. Definitions only.
-use Rattle.std.specs.Prelude.{ℕ, zero, suc, ◌+◌, ◌*◌, ◌/◌, min, Bool, List, [], ◌∷◌, ◌++◌, eqb, length, get_or}
+use Rattle.std.specs.Prelude.{ℕ, zero, suc, ◌+◌, ◌*◌, ◌/◌, min, Bool, List, [], ◌∷◌, ◌++◌, eqb, length, get_or, Option, Some, None, Result, Ok, Err}
 use Rattle.numbers.specs.Walks.{strung}
 use Rattle.numbers.specs.Notation.{if_then}
 use Rattle.numbers.specs.Refusals.{refusal}
@@ -10,12 +10,6 @@ use Rattle.job_records.specs.Bytes.{values_at, bytes_of, bytes_from, pasted}
 use Rattle.job_records.specs.declared.Tally.{Tally}
 use Rattle.job_records.specs.declared.Cursor.{Cursor}
 use Rattle.job.specs.declared.SettingBits.{SettingBits}
-use Rattle.job_records.specs.declared.Step.{Step}
-use Rattle.job_records.specs.declared.Step.TheVariants as step
-use Rattle.job.specs.declared.Scanned.{Scanned}
-use Rattle.job.specs.declared.Scanned.TheVariants as scanned
-use Rattle.job.specs.declared.Read.{Read}
-use Rattle.job.specs.declared.Read.TheVariants as read
 
 -- ---- a job
 
@@ -107,10 +101,10 @@ pub data Reading : Type 0 where
   taken : Tally → Job → Reading
   refused : Refusal → Reading
 
-abbrev pub read_on : (Cursor → Job → Reading) → List ℕ → Cursor → Job → Step → Reading
-read_on next s c j (step.On d) = next d (holding s c.at j)
-read_on next s c j step.Done = taken c.had j
-read_on next s c j (step.Stop r) = refused r
+abbrev pub read_on : (Cursor → Job → Reading) → List ℕ → Cursor → Job → Result (Option Cursor) Refusal → Reading
+read_on next s c j (Ok (Some d)) = next d (holding s c.at j)
+read_on next s c j (Ok None) = taken c.had j
+read_on next s c j (Err r) = refused r
 
 -- from a cursor on, with what was read so far, over at most n records
 unfoldable pub read_from : ℕ → Tally → List ℕ → Cursor → Job → Reading
@@ -150,11 +144,11 @@ settings_from ns =
     record { limit = get_or ns 0 0; cost_tolerance = get_or ns 1 0; gradient_tolerance = get_or ns 2 0; damping = get_or ns 3 0 }
 
 -- a refused job changes no lent number
-abbrev pub read_gives : Space → Reading → Read × Space
-read_gives l (taken t j) = (read.Job (settings_from j.settings) t, filled j l)
-read_gives l (refused r) = (read.Refused r, l)
+abbrev pub read_gives : Space → Reading → Result (SettingBits × Tally) Refusal × Space
+read_gives l (taken t j) = (Ok (settings_from j.settings, t), filled j l)
+read_gives l (refused r) = (Err r, l)
 
-unfoldable pub read_into : List ℕ → Space → Read × Space
+unfoldable pub read_into : List ℕ → Space → Result (SettingBits × Tally) Refusal × Space
 read_into s l = read_gives l (reading (room_in l) s)
 
 -- ---- the job that settings and lists are
@@ -174,9 +168,9 @@ job_of t l =
 
 -- ---- for the functions behind the reader; nothing above rests on it
 
-abbrev pub scanned_as : Reading → Scanned
-scanned_as (taken t j) = scanned.Whole t
-scanned_as (refused r) = scanned.Refused r
+abbrev pub scanned_as : Reading → Result Tally Refusal
+scanned_as (taken t j) = Ok t
+scanned_as (refused r) = Err r
 
 abbrev pub IsTaken : Reading → Type 0
 IsTaken (taken t j) = Unit {0}

@@ -1,14 +1,11 @@
 -- The records of a job file (document 02, Wish 1): which fault the record at a place has, and what it leads to. Definitions only.
-use Rattle.std.specs.Prelude.{ℕ, ◌+◌, Bool, not, ◌&&◌, ◌||◌, List, [], ◌∷◌, eqb, ltb, leb, length}
+use Rattle.std.specs.Prelude.{ℕ, ◌+◌, Bool, not, ◌&&◌, ◌||◌, List, [], ◌∷◌, eqb, ltb, leb, length, Option, Some, None, Result, Ok, Err}
 use Rattle.numbers.specs.Notation.{if_then}
-use Rattle.numbers.specs.Refusals.{Fault, fault, says}
-use Rattle.numbers.specs.declared.Verdict.{Verdict}
-use Rattle.numbers.specs.declared.Verdict.TheVariants as verdict
+use Rattle.numbers.specs.Refusals.{Fault, fault, says, Verdict}
+use Rattle.numbers.specs.declared.Refusal.{Refusal}
 use Rattle.job_records.specs.Bytes.{value_at}
 use Rattle.job_records.specs.declared.Tally.{Tally}
 use Rattle.job_records.specs.declared.Cursor.{Cursor}
-use Rattle.job_records.specs.declared.Step.{Step}
-use Rattle.job_records.specs.declared.Step.TheVariants as step
 
 -- ---- which fault a record has
 
@@ -71,13 +68,13 @@ behind s c =
     record { at = c.at + 4 + length_at s c.at; last = kind_at s c.at; had = counted (kind_at s c.at) c.had }
 
 -- what the record at a cursor leads to: the next one, the end, or a refusal
-abbrev pub closed : Verdict → Step
-closed verdict.Fine = step.Done
-closed (verdict.Refused r) = step.Stop r
+abbrev pub closed : Verdict → Result (Option Cursor) Refusal
+closed (Ok _) = Ok None
+closed (Err r) = Err r
 
-abbrev pub step_from : List ℕ → Cursor → Verdict → Step
-step_from s c (verdict.Refused r) = step.Stop r
-step_from s c verdict.Fine = if_then (eqb (kind_at s c.at) 5) (closed (says (end_faults s) (c.at + 4))) (step.On (behind s c))
+abbrev pub step_from : List ℕ → Cursor → Verdict → Result (Option Cursor) Refusal
+step_from s c (Err r) = Err r
+step_from s c (Ok _) = if_then (eqb (kind_at s c.at) 5) (closed (says (end_faults s) (c.at + 4))) (Ok (Some (behind s c)))
 
-unfoldable pub record_step : Tally → List ℕ → Cursor → Step
+unfoldable pub record_step : Tally → List ℕ → Cursor → Result (Option Cursor) Refusal
 record_step room s c = step_from s c (fault_of room s c)

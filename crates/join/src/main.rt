@@ -18,11 +18,8 @@ fn join(rt: &HostRuntime, bytes: &[u8]) {
 
 fn main(rt: HostRuntime) {
     let mut bytes = join_job::full_input();
-    let got = input::read_input(&mut rt.stdin(), &mut bytes);
-    if got.failed {
-        line::say(&mut rt.stderr(), line::unreadable());
-        return;
+    match input::read_input(&mut rt.stdin(), &mut bytes) {
+        Ok(n) => join(&rt, &bytes[..n]),
+        Err(_) => line::say(&mut rt.stderr(), line::unreadable()),
     }
-    let n = got.bytes;
-    join(&rt, &bytes[..n]);
 }

@@ -2,6 +2,11 @@
 -- Assumes nothing.
 use Prim.Native.Nat.{ℕ, zero, suc, ◌*◌, ◌%◌, ◌≤◌}
 use native.Mathlib.Omega.{arith}
+use Rattle.checks.specs.declared.Counts.{Counts}
+use Rattle.numbers.specs.declared.Refusal.{Refusal}
+use Rattle.printable.specs.declared.Printable.{Printable}
+use Rattle.sparse_pgo.specs.declared.Joined.{Joined}
+use Rattle.std.specs.Prelude.{Err, Ok, Result}
 use mathlib.Core.Path.{◌≡◌, refl, sym, ap, subst, ◌∙◌}
 use mathlib.Core.Bool.{Bool, true, false}
 use mathlib.Core.List.{List}
@@ -16,8 +21,6 @@ use Rattle.numbers.proofs.Tables.{length_table}
 use Rattle.graph.specs.Graph.{Links}
 use Rattle.checks.specs.Input.{Input}
 use Rattle.checks.specs.Table.{checks}
-use Rattle.checks.specs.declared.Checked.{Checked}
-use Rattle.checks.specs.declared.Checked.TheVariants as checked
 use Rattle.graph.specs.declared.Edge.{Edge}
 use Rattle.graph.specs.declared.Manifold.{Manifold}
 use Rattle.rows.specs.declared.Settings.{Settings}
@@ -28,20 +31,14 @@ use Rattle.sparse_pgo.specs.Parts.{Parts, Found, step, no_step, numerics, step_t
 use Rattle.trials.specs.Trials.{moved_numbers}
 use Rattle.sparse_pgo.specs.Numerics.{parts_on}
 use Rattle.sparse_pgo.specs.Optimize.{ran, given, after_checks, optimized}
-use Rattle.sparse_pgo.specs.declared.Answer.{Answer}
-use Rattle.sparse_pgo.specs.declared.Answer.TheVariants as answer
 use Rattle.job.specs.Format.{Job, Space, space, tally_of, settings_from, Reading, taken, refused, reading, size_of}
 use Rattle.job.specs.Writer.{written_into}
 use Rattle.job_records.specs.declared.Tally.{Tally}
 use Rattle.job.specs.declared.SettingBits.{SettingBits}
-use Rattle.job.specs.declared.Written.{Written}
-use Rattle.job.specs.declared.Written.TheVariants as written
 use Rattle.job.proofs.Trips.{read_lengths, read_tally}
 use Rattle.job.proofs.Writing.{misfit, written_whole, Within, written_within}
 use Rattle.join_job.specs.Joining.{floats, patterns, ran_over, run_of, job_run, with_poses, report_as, report_from, report_of}
 use Rattle.join_job.specs.Joining.{job_judged, written_with, joined_as, joined_with, joined_from, joined_into}
-use Rattle.join_job.specs.declared.Judged.{Judged}
-use Rattle.join_job.specs.declared.Judged.TheVariants as judged
 use Rattle.join_job.specs.declared.Report.{Report}
 
 -- ---- a run holds as many numbers as it began with
@@ -85,15 +82,15 @@ module _ (m : Manifold) (n poses : ℕ) (set : Settings) (l : Links Edge) where
 
 -- ---- so does what it gives
 
-given_long : (out : List Float) (w : Whole (List Float)) (a : Answer) → length w.held ≡ length out → length (given out w a) ≡ length out
-given_long out w (answer.Joined j) e = e
-given_long out w (answer.Refused r) e = refl
+given_long : (out : List Float) (w : Whole (List Float)) (a : Result Joined Refusal) → length w.held ≡ length out → length (given out w a) ≡ length out
+given_long out w (Ok j) e = e
+given_long out w (Err r) e = refl
 
-after_long : (i : Input) (work32 work64 out : List Float) (c : Checked) → length i.poses ≡ length out
+after_long : (i : Input) (work32 work64 out : List Float) (c : Result Counts Refusal) → length i.poses ≡ length out
     → length (after_checks i work32 work64 out c).out ≡ length out
 unfolding ran
-after_long i work32 work64 out (checked.Turned r) e = refl
-after_long i work32 work64 out (checked.Fit c) e = given_long out (ran i) (ran i).answer (whole_long _ _ _ i.settings _ i.poses ∙ e)
+after_long i work32 work64 out (Err r) e = refl
+after_long i work32 work64 out (Ok c) e = given_long out (ran i) (ran i).answer (whole_long _ _ _ i.settings _ i.poses ∙ e)
 
 optimized_long : (i : Input) (work32 work64 out : List Float) → length i.poses ≡ length out
     → length (optimized i work32 work64 out).out ≡ length out
@@ -127,7 +124,7 @@ module _ (room : Tally) (s : List ℕ) (out : List ℕ) (long : size_of room ≤
     abbrev moved : Job
     moved = with_poses j (patterns binary64 (job_run j).out)
 
-    said_whole : (r : Report) → (written_with r (written_into moved out)).0 ≡ r
+    said_whole : (r : Result Report Refusal) → (written_with r (written_into moved out)).0 ≡ r
     said_whole r =
         let n = new_long j in
         let h = read_lengths room s had j e in
@@ -137,11 +134,11 @@ module _ (room : Tally) (s : List ℕ) (out : List ℕ) (long : size_of room ≤
         let u : misfit (length moved.poses) (length j.ends) (length j.edges) ≡ false =
         fits (length moved.poses) (length j.ends) (length j.edges) (omega arith) (omega arith) (omega arith) in
         let k : size_of (tally_of moved) ≤ length out = omega arith in
-        ap (λ (w : Written × List ℕ). (written_with r w).0) (sym (written_whole moved out u (le-ltb _ _ k)))
+        ap (λ (w : Result ℕ Refusal × List ℕ). (written_with r w).0) (sym (written_whole moved out u (le-ltb _ _ k)))
 
-    said_of : (a : Judged) → (joined_as had j out (job_run j) a).0 ≡ report_as had a
-    said_of (judged.Ran x p) = said_whole (report_as had (judged.Ran x p))
-    said_of (judged.Refused r) = refl
+    said_of : (a : Result (Joined × Printable) Refusal) → (joined_as had j out (job_run j) a).0 ≡ report_as had a
+    said_of (Ok (x, p)) = said_whole (report_as had (Ok (x, p)))
+    said_of (Err r) = refl
 
   said_from : (x : Reading) → reading room s ≡ x → (joined_from out x).0 ≡ report_from x
   unfolding joined_with
@@ -154,16 +151,16 @@ module _ (room : Tally) (s : List ℕ) (out : List ℕ) (long : size_of room ≤
 
 -- ---- as many bytes as `join` says stand in its output
 
-within_said : (r : Report) (w : Written × List ℕ) → Within w → (written_with r w).1 ≤ length (written_with r w).2
-within_said r (written.Bytes n, out) h = h
-within_said r (written.Refused q, out) h = omega arith
+within_said : (r : Result Report Refusal) (w : Result ℕ Refusal × List ℕ) → Within w → (written_with r w).1 ≤ length (written_with r w).2
+within_said r (Ok n, out) h = h
+within_said r (Err q, out) h = omega arith
 
 module _ (room : Tally) (s out : List ℕ) where
-  within_as : (had : Tally) (j : Job) (a : Judged) → (joined_as had j out (job_run j) a).1 ≤ length (joined_as had j out (job_run j) a).2
-  within_as had j (judged.Refused r) = omega arith
-  within_as had j (judged.Ran x p) =
+  within_as : (had : Tally) (j : Job) (a : Result (Joined × Printable) Refusal) → (joined_as had j out (job_run j) a).1 ≤ length (joined_as had j out (job_run j) a).2
+  within_as had j (Err r) = omega arith
+  within_as had j (Ok (x, p)) =
       let moved = with_poses j (patterns binary64 (job_run j).out) in
-      within_said (report_as had (judged.Ran x p)) (written_into moved out) (written_within moved out)
+      within_said (report_as had (Ok (x, p))) (written_into moved out) (written_within moved out)
 
   within_from : (x : Reading) → (joined_from out x).1 ≤ length (joined_from out x).2
   unfolding joined_with
@@ -174,7 +171,7 @@ module _ (room : Tally) (s out : List ℕ) where
   unfolding joined_into
   joined_within = within_from (reading room s)
 
-  pub joined_counts : (r : Report) (n : ℕ) (after : List ℕ) → (r, n, after) ≡ joined_into room s out → IsPrefixLen n after
+  pub joined_counts : (r : Result Report Refusal) (n : ℕ) (after : List ℕ) → (r, n, after) ≡ joined_into room s out → IsPrefixLen n after
   joined_counts r n after e =
-      let h : n ≤ length after = subst (λ (x : Report × ℕ × List ℕ). x.1 ≤ length x.2) (sym e) joined_within in
+      let h : n ≤ length after = subst (λ (x : Result Report Refusal × ℕ × List ℕ). x.1 ≤ length x.2) (sym e) joined_within in
       (h, sym (length-take-le n after h))

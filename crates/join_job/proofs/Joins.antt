@@ -2,7 +2,7 @@
 -- Assumes nothing.
 use Prim.Native.Nat.{ℕ, ◌+◌, ◌*◌, ◌≤◌}
 use native.Mathlib.Omega.{arith}
-use native.Mathlib.Nat.{mul-le-mul_left}
+use Rattle.std.specs.Prelude.{Err, Ok, Result}
 use mathlib.Core.Path.{◌≡◌, sym, ap, ◌∙◌}
 use mathlib.Core.List.{List, ◌++◌, append_assoc}
 use lib.ListN.{length, take, drop}
@@ -17,46 +17,31 @@ use Rattle.job.specs.Format.{settings_from, setting_numbers, read_gives, read_in
 use Rattle.job.specs.Writer.{written_into}
 use Rattle.job_records.specs.declared.Tally.{Tally}
 use Rattle.job.specs.declared.SettingBits.{SettingBits}
-use Rattle.job.specs.declared.Read.{Read}
-use Rattle.job.specs.declared.Read.TheVariants as read
-use Rattle.job.specs.declared.Written.{Written}
 use Rattle.job.proofs.Again.{front, settings_back, given_taken}
 use Rattle.job.proofs.Trips.{read_settings, read_lengths, read_tally}
 use Rattle.join_job.specs.Joining.{patterns, run_of, job_run, judged_of, job_judged, report_as, written_with, joined_as, joined_with, joined_from, joined_into}
-use Rattle.join_job.specs.declared.Judged.TheVariants as judged
-use Rattle.join_job.specs.declared.Report.TheVariants as report
-
--- so many of each, within arrays that hold them
-pub times_fit : (k : ℕ) {n m l : ℕ} → n ≤ m → l ≡ k * m → k * n ≤ l
-times_fit k {n} {m} {l} h e = let p = mul-le-mul_left k h in omega arith
-
-pub fits_in : {n m l : ℕ} → n ≤ m → l ≡ m → n ≤ l
-fits_in h e = omega arith
-
-pub taken_fits : (k : ℕ) (l : List ℕ) {n m : ℕ} → n ≤ m → length l ≡ k * m → length (take (k * n) l) ≤ k * m
-taken_fits k l {n} {m} h e = let p = mul-le-mul_left k h in let q = length-take-le (k * n) l (omega arith) in omega arith
 
 -- ---- what was read, run and written
 
 module _ (t : SettingBits) (had : Tally) (l : Space) (out : List ℕ) where
-  pub run_refused : (r : Refusal) → judged.Refused r ≡ judged_of t l → (report.Refused r, 0, out) ≡ joined_with had (job_of t l) out
+  pub run_refused : (r : Refusal) → Err r ≡ judged_of t l → (Err r, 0, out) ≡ joined_with had (job_of t l) out
   unfolding joined_with job_run job_judged
   run_refused r e = ap (joined_as had (job_of t l) out (run_of t l)) e
 
-  pub run_written : (j : Joined) (p : Printable) (new : List ℕ) (w : Written) (after : List ℕ) → judged.Ran j p ≡ judged_of t l
+  pub run_written : (j : Joined) (p : Printable) (new : List ℕ) (w : Result ℕ Refusal) (after : List ℕ) → Ok (j, p) ≡ judged_of t l
       → new ≡ patterns binary64 (run_of t l).out → (w, after) ≡ written_into (job_of t (space new l.ends l.edges l.fixed)) out
-      → written_with (report_as had (judged.Ran j p)) (w, after) ≡ joined_with had (job_of t l) out
+      → written_with (report_as had (Ok (j, p))) (w, after) ≡ joined_with had (job_of t l) out
   unfolding joined_with job_run job_judged
   run_written j p new w after e n q =
-      ap (written_with (report_as had (judged.Ran j p)))
+      ap (written_with (report_as had (Ok (j, p))))
       (q ∙ ap (λ (x : List ℕ). written_into (job_of t (space x l.ends l.edges l.fixed)) out) n)
       ∙ ap (joined_as had (job_of t l) out (run_of t l)) e
 
 -- ---- what the reader gave
 
-given_refused : (x : Reading) (l l' : Space) (r : Refusal) → (read.Refused r, l') ≡ read_gives l x → x ≡ refused r
-given_refused (taken h j) l l' r e = let q = ap (λ (y : Read × Space). y.0) e in let z : ◌≡◌ {A = ℕ} 0 1 = cc in absurd (omega arith)
-given_refused (refused k) l l' r e = let q = ap (λ (y : Read × Space). y.0) e in let k-is : k ≡ r = cc in ap refused k-is
+given_refused : (x : Reading) (l l' : Space) (r : Refusal) → (Err r, l') ≡ read_gives l x → x ≡ refused r
+given_refused (taken h j) l l' r e = let q = ap (λ (y : Result (SettingBits × Tally) Refusal × Space). y.0) e in let z : ◌≡◌ {A = ℕ} 0 1 = cc in absurd (omega arith)
+given_refused (refused k) l l' r e = let q = ap (λ (y : Result (SettingBits × Tally) Refusal × Space). y.0) e in let k-is : k ≡ r = cc in ap refused k-is
 
 -- ---- arrays that a job was read into the front of
 
@@ -95,19 +80,19 @@ module _ (room : Tally) (l : Space) (b : Blank room l) where
       let f : length (take room.fixed l.fixed) ≡ room.fixed = length-take-le _ _ (omega arith) in
       tally_is room _ _ _ (omega arith) (omega arith) f
 
-  module _ (s : List ℕ) (r : Read) (l' : Space) (e : (r, l') ≡ read_into s (front room l)) where
+  module _ (s : List ℕ) (r : Result (SettingBits × Tally) Refusal) (l' : Space) (e : (r, l') ≡ read_into s (front room l)) where
     read_here : (r, l') ≡ read_gives (front room l) (reading room s)
     unfolding read_into
     read_here = e ∙ ap (λ (y : Tally). read_gives (front room l) (reading y s)) room_in_front
 
-    pub within_refused : (x : Refusal) (out : List ℕ) → r ≡ read.Refused x → (report.Refused x, 0, out) ≡ joined_into room s out
+    pub within_refused : (x : Refusal) (out : List ℕ) → r ≡ Err x → (Err x, 0, out) ≡ joined_into room s out
     unfolding joined_into
     within_refused x out q =
-        ap (joined_from out) (sym (given_refused (reading room s) (front room l) l' x (ap (λ (y : Read). (y, l')) (sym q) ∙ read_here)))
+        ap (joined_from out) (sym (given_refused (reading room s) (front room l) l' x (ap (λ (y : Result (SettingBits × Tally) Refusal). (y, l')) (sym q) ∙ read_here)))
 
-    module _ (t : SettingBits) (had : Tally) (q : r ≡ read.Job t had) where
+    module _ (t : SettingBits) (had : Tally) (q : r ≡ Ok (t, had)) where
       found : (j : Job) × (reading room s ≡ taken had j) × (t ≡ settings_from j.settings) × (l' ≡ filled j (front room l))
-      found = given_taken (reading room s) (front room l) l' t had (ap (λ (y : Read). (y, l')) (sym q) ∙ read_here)
+      found = given_taken (reading room s) (front room l) l' t had (ap (λ (y : Result (SettingBits × Tally) Refusal). (y, l')) (sym q) ∙ read_here)
 
       pub had_fits : (had.poses ≤ 256) × (had.edges ≤ 1024) × (had.fixed ≤ 256)
       had_fits =

@@ -1,12 +1,17 @@
 -- Lists that are filled from another, number by number, and what a run over work of zeros gives. Assumes nothing.
-use Prim.Native.Nat.{ℕ, zero, suc, ◌<◌, ◌≤◌}
+use Prim.Native.Nat.{ℕ, zero, suc, ◌+◌, ◌<◌, ◌≤◌}
 use native.Mathlib.Omega.{arith}
-use mathlib.Core.Path.{◌≡◌, refl, sym, ap, subst, ◌∙◌}
-use native.Mathlib.Nat.{zero-add}
-use mathlib.Core.List.{List, map, ◌∷◌, ◌++◌}
-use lib.ListN.{length, get_or, take, drop, replicate, length-map, length-replicate, get_or-map}
-use lib.Seq.{ext_get_or, get_or-take, length-take-le, length_front, take_at}
-use lib.Ieee.{Float, nan, of_bits, of_fields, odd, div, binary32, binary64, to_bits, round}
+use Rattle.numbers.specs.declared.Refusal.{Refusal}
+use Rattle.sparse_pgo.specs.declared.Joined.{Joined}
+use Rattle.std.specs.Prelude.{Result}
+use mathlib.Core.Path.{◌≡◌, refl, ap, ◌∙◌}
+use native.Mathlib.Numerals.{add-one}
+use mathlib.Core.List.{List, ◌∷◌}
+use lib.ListN.{length, get_or, set, take, replicate}
+use lib.Seq.{take-suc, take-suc-set}
+use lib.Ieee.{Float, nan, of_bits, of_fields, odd, binary32, binary64, to_bits, round}
+use Rattle.std.specs.List.{AllZip}
+use Rattle.std.proofs.lemmas.Slice.Zip.{all_zipped_more}
 use Rattle.numbers.specs.Notation.{num, ratio}
 use Rattle.checks.specs.Input.{lent}
 use Rattle.graph.specs.declared.Manifold.TheVariants.{Se3}
@@ -14,14 +19,11 @@ use Rattle.rows.specs.declared.Settings.{Settings}
 use Rattle.sparse_pgo.specs.Optimize.{After, optimized}
 use Rattle.job.specs.declared.SettingBits.{SettingBits}
 use Rattle.job.specs.Format.{Space}
-use Rattle.sparse_pgo.specs.declared.Answer.{Answer}
 use Rattle.job_terms.specs.Terms.{settings_as}
 use Rattle.join_job.specs.Joining.{floats, ran_over, run_of, judged_as, judged_over, judged_of}
-use Rattle.numbers.proofs.Filling.{get_d_within}
-use Rattle.numbers.proofs.Laying.{Laid}
 
-pub nan64 : div binary64 (of_bits binary64 0) (of_bits binary64 0) ≡ nan
-unfolding div of_bits of_fields odd
+pub nan64 : of_bits binary64 0x7ff8_0000_0000_0000 ≡ nan
+unfolding of_bits of_fields odd
 nan64 = refl
 
 pub nan_bits_lem : 0x7ff8_0000_0000_0000 ≡ to_bits binary64 nan
@@ -50,48 +52,18 @@ pub zero64 : of_bits binary64 0 ≡ num 0
 unfolding of_bits of_fields odd ratio round
 zero64 = refl
 
--- a list filled with what a function makes of another's numbers
-pub laid_map : {A B : Type 0} (d : B) (z : A) (f : A → B) (m : List A) {l₀ l : List B} {i : ℕ}
-    → Laid d (λ k. f (get_or m k z)) 0 l₀ l i → length l₀ ≡ length m → length l ≤ i → l ≡ map f m
-laid_map d z f m {l₀} {l} {i} h e q =
-    let n = h.len in
-    let w = length-map m f in
-    ext_get_or d l (map f m) (n ∙ e ∙ sym w)
-    (λ k p.
-    let r : k < i = omega arith in
-    subst (λ (x : ℕ). get_or l x d ≡ f (get_or m k z)) (zero-add k) (h.inside k r) ∙ sym (get_or-map f m k z) ∙ get_d_within (map f m) k (f z) d (omega arith))
+-- one more of another list's numbers made
+pub zipped_more : {A B : Type 0} (R : A → B → Type 0) (xs : List A) (ys : List B) (i : ℕ) (x : A) (y : B) → i < length xs → i < length ys
+    → x ≡ get_or xs i x → AllZip R (take i xs) (take i ys) → R x y → AllZip R (take (i + 1) xs) (take (i + 1) (set ys i y))
+zipped_more R xs ys i x y h k e z r =
+    rw (add-one, take-suc xs i x h, take-suc-set ys i y k, ← e) (all_zipped_more R (take i xs) (take i ys) x y z r)
 
--- from the start of a longer one
-pub laid_front : {A B : Type 0} (d : B) (z : A) (f : A → B) (m : List A) {l₀ l : List B} {i : ℕ}
-    → Laid d (λ k. f (get_or m k z)) 0 l₀ l i → length m ≤ i → length m ≤ length l₀ → take (length m) l ≡ map f m
-laid_front d z f m {l₀} {l} {i} h q p =
-    let n = h.len in
-    let w = length-map m f in
-    let t = length-take-le (length m) l (omega arith) in
-    ext_get_or d (take (length m) l) (map f m) (t ∙ sym w)
-    (λ k r.
-    let b : k < length m = omega arith in
-    get_or-take (length m) l k d b
-    ∙ subst (λ (x : ℕ). get_or l x d ≡ f (get_or m k z)) (zero-add k) (h.inside k (omega arith))
-    ∙ sym (get_or-map f m k z)
-    ∙ get_d_within (map f m) k (f z) d (omega arith))
-
--- ---- the front of a list, lent, written and read again
+-- ---- the front of an array of zeros, and what a run over it gives
 
 pub take_replicate : {A : Type 0} (n k : ℕ) (v : A) → n ≤ k → take n (replicate k v) ≡ replicate n v
 take_replicate zero k v h = refl
 take_replicate (suc n) zero v h = absurd (omega arith)
 take_replicate (suc n) (suc k) v h = ap (λ (l : List _). v ∷ l) (take_replicate n k v (omega arith))
-
-pub blank_long : {l : List Float} {n : ℕ} → l ≡ replicate 3072 (num 0) → n ≤ 3072 → n ≤ length l
-blank_long {l} {n} e h = let q : length l ≡ 3072 = ap length e ∙ length-replicate {A = Float} 3072 (num 0) in omega arith
-
-module _ {A : Type 0} (n : ℕ) (b e : List A) (h : n ≤ length b) (k : length e ≡ length (take n b)) where
-  pub front_long : n ≤ length (e ++ drop n b)
-  front_long = let q = length_front b e n k in omega arith
-
-  pub front_again : take n (e ++ drop n b) ≡ e
-  front_again = take_at e (drop n b) n (k ∙ length-take-le n b h)
 
 -- what is worked out from what was read, from its floats and an output of zeros
 from_floats : {A : Type 0} (f : List Float → List ℕ → List Float → List ℕ → List Float → A) (l : Space) (poses edges out : List Float)
@@ -111,7 +83,7 @@ module _ (t : SettingBits) (l : Space) (poses edges out : List Float) (p : poses
   judged_is = from_floats (judged_over t) l poses edges out p q r
 
 -- a run's answer, judged at what it gave
-pub judged_as_lem : (t : SettingBits) (poses : List Float) (ends : List ℕ) (edges : List Float) (fixed : List ℕ) (out new : List Float) (a : Answer)
+pub judged_as_lem : (t : SettingBits) (poses : List Float) (ends : List ℕ) (edges : List Float) (fixed : List ℕ) (out new : List Float) (a : Result Joined Refusal)
     → a ≡ (ran_over t poses ends edges fixed out).answer → new ≡ (ran_over t poses ends edges fixed out).out
     → judged_as t.limit poses ends edges new a ≡ judged_over t poses ends edges fixed out
 unfolding judged_over

@@ -1,4 +1,5 @@
 -- The second line's words, computed at single cases, which any slip of its words or in the order of its numbers would break. Assumes nothing.
+use Rattle.std.specs.Prelude.{Ok}
 use mathlib.Core.Path.{◌≡◌, refl}
 use mathlib.Core.Bool.{true}
 use mathlib.Core.List.{[], ◌∷◌, map}
@@ -11,10 +12,9 @@ use Rattle.line.specs.Text.{ascii, decimal}
 use Rattle.line.specs.FloatText.{raised, lowered, repeated, scaled_of, whole_part, rounded_six, digits_text, pointed, plain_text, power_text, six_text}
 use Rattle.line.specs.FloatText.{size_text, float_text}
 use Rattle.join_job.specs.Joining.{printable_text, second_text}
-use Rattle.join_job.specs.declared.Report.TheVariants as report
 
 pub second_lines :
-    map (λ (p : Printable). second_text (report.Ran 2 1 30 true p)) (
+    map (λ (p : Printable). second_text (Ok (record { poses = 2; edges = 1; iterations = 30; converged = true; printable = p }))) (
     printable.Yes
     ∷ printable.NoResidual
     ∷ printable.NotConverged 30 40

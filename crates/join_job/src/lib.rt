@@ -2,43 +2,39 @@
 // program says of it is made here too, so that programs only read and write.
 #![tactic(auto)]
 
-ghost use Rattle.std.specs.Prelude.{◌≡◌, ◌*◌, ◌≤◌, ◌++◌, length, take, replicate};
-ghost use Rattle.std.specs.Float.{binary32, binary64};
+ghost use Rattle.std.specs.Prelude.{◌≡◌, Err, ◌*◌, ◌≤◌, ◌++◌, length, take, replicate};
+ghost use Rattle.std.specs.Float.{binary64};
+ghost use Rattle.std.specs.List.{AllZip};
 ghost use Rattle.std.specs.Float.Ieee.{of_bits, to_bits};
-ghost use Rattle.numbers.specs.Notation.{num};
 ghost use Rattle.io.specs.Counts.{IsPrefixLen};
 ghost use Rattle.job.specs.Format.{space, job_of, size_of, read_at_most};
 ghost use Rattle.printable.specs.declared.Printable.TheVariants as printable;
 ghost use Rattle.line.specs.Text.{ascii, line_of};
 ghost use Rattle.line.specs.FloatText.{float_text};
-ghost use Rattle.join_job.specs.Joining.{floats, patterns, ran_over, run_of, judged_over, judged_of, joined_with, joined_into};
+ghost use Rattle.join_job.specs.Joining.{patterns, ran_over, run_of, judged_over, judged_of, joined_with, joined_into};
 ghost use Rattle.join_job.specs.Joining.{report_of, report_text, printable_text, second_text, small_room, full_room};
 
-use job::{Read, SettingBits, Written};
+use job::SettingBits;
 use job_records::Tally;
 use line::Line;
 use numbers::Refusal;
 use printable::Printable;
-use sparse_pgo::{Answer, Joined};
+use sparse_pgo::Joined;
 
-// A run that was made, and whether it may be printed; or why it was turned down.
+// What is said of a job's run.
 #[derive(Clone, Copy)]
-pub enum Judged {
-    Ran(Joined, Printable),
-    Refused(Refusal),
+pub struct Report {
+    pub poses: usize,
+    pub edges: usize,
+    pub iterations: u32,
+    pub converged: bool,
+    pub printable: Printable,
 }
 
-// What is said of a job: poses, edges, iterations, whether it converged and whether it may be printed; or why it was turned down.
-#[derive(Clone, Copy)]
-pub enum Report {
-    Ran(usize, usize, u32, bool, Printable),
-    Refused(Refusal),
-}
-
-// And the bytes of the joined job.
+// What is said of a job, or why it was turned down; and how many bytes the joined job has, 0 where there is none.
 #[derive(Clone, Copy)]
 pub struct Joining {
-    pub report: Report,
+    pub report: Result<Report, Refusal>,
     pub bytes: usize,
 }
 
@@ -48,7 +44,7 @@ fn double_of(bits: u64) -> f64
     ensures { result ≡ of_bits binary64 bits }
 {
     if 0x7ff0_0000_0000_0000 < bits % 0x8000_0000_0000_0000 {
-        return 0.0 / 0.0;
+        return f64::NAN;
     }
     f64::from_bits(bits)
 }
@@ -56,61 +52,29 @@ fn double_of(bits: u64) -> f64
 fn bits_of(x: f64) -> u64
     ensures { result ≡ to_bits binary64 x }
 {
-    if x != x {
+    if x.is_nan() {
         return 0x7ff8_0000_0000_0000;
     }
-    f64::to_bits(x)
+    x.to_bits()
 }
 
-// Room for the floats of 256 poses and of 1,024 edges.
-fn blank_doubles() -> [f64; 3072]
-    ensures { result ≡ replicate 3072 (num 0) }
+// Each number of `to` becomes what `made` makes of the one of `from` at its place.
+fn convert<A: Copy, B: Copy, F: Fn(A) -> B>(from: &[A], to: &mut [B], made: F)
+    requires same_length { length to.old ≡ length from.now }
+    requires callable { F.IsAlwaysCallable made }
+    ensures { AllZip (F.post made) from.now to.new }
 {
-    [0.0; 3072]
-}
-
-fn blank_singles() -> [f32; 8192]
-    ensures { length result ≡ 8192 }
-{
-    [0.0; 8192]
-}
-
-// The floats of at most so many patterns, from the start on.
-fn doubles(from: &[u64]) -> [f64; 3072]
-    requires { length from.now ≤ 3072 }
-    ensures { (length result ≡ 3072) × (take (length from.now) result ≡ floats binary64 from.now) }
-{
-    let mut to = blank_doubles();
-    let mut i = 0usize;
-    while i < from.len() {
-        to[i] = double_of(from[i]);
-        i += 1;
+    for (i, x) in from.iter().enumerate() {
+        to[i] = made(*x);
     }
-    to
 }
 
-fn singles(from: &[u32]) -> [f32; 8192]
-    requires { length from.now ≤ 8192 }
-    ensures { (length result ≡ 8192) × (take (length from.now) result ≡ floats binary32 from.now) }
+// An array of one value, whose length callers know without a look at it.
+fn blank<T: Copy, const N: usize>(zero: T) -> [T; N]
+    ensures value { result ≡ replicate N zero }
+    ensures len { length result ≡ N }
 {
-    let mut to = blank_singles();
-    let mut i = 0usize;
-    while i < from.len() {
-        to[i] = job_terms::single_of(from[i]);
-        i += 1;
-    }
-    to
-}
-
-fn bits(from: &[f64], to: &mut [u64])
-    requires { length to.old ≡ length from.now }
-    ensures { to.new ≡ patterns binary64 from.now }
-{
-    let mut i = 0usize;
-    while i < to.len() {
-        to[i] = bits_of(from[i]);
-        i += 1;
-    }
+    [zero; N]
 }
 
 // ---- the run
@@ -123,7 +87,7 @@ fn run_over(
     edges: &[f32],
     fixed: &[u32],
     out: &mut [f64],
-) -> Answer
+) -> Result<Joined, Refusal>
     ensures value { result ≡ (ran_over t poses.now ends.now edges.now fixed.now out.old).answer }
     ensures out_value { out.new ≡ (ran_over t poses.now ends.now edges.now fixed.now out.old).out }
 {
@@ -149,18 +113,13 @@ fn judge_over(
     edges: &[f32],
     fixed: &[u32],
     out: &mut [f64],
-) -> Judged
+) -> Result<(Joined, Printable), Refusal>
     ensures value { result ≡ judged_over t poses.now ends.now edges.now fixed.now out.old }
     ensures out_value { out.new ≡ (ran_over t poses.now ends.now edges.now fixed.now out.old).out }
 {
-    let a = run_over(t, poses, ends, edges, fixed, out);
-    match a {
-        Answer::Refused(r) => Judged::Refused(r),
-        Answer::Joined(j) => Judged::Ran(
-            j,
-            job_terms::printable_after(j.converged, j.iterations, t.limit, poses, ends, edges, out),
-        ),
-    }
+    let j = run_over(t, poses, ends, edges, fixed, out)?;
+    let p = job_terms::printable_after(j.converged, j.iterations, t.limit, poses, ends, edges, out);
+    Ok((j, p))
 }
 
 // The run of what was read; the new poses' bits where it succeeds.
@@ -171,58 +130,31 @@ fn run_job(
     edges: &[u32],
     fixed: &[u32],
     new: &mut [u64],
-) -> Judged
+) -> Result<(Joined, Printable), Refusal>
     requires { (length poses.now ≤ 3072) × (length edges.now ≤ 8192) × (length new.old ≡ length poses.now) }
     ensures value { result ≡ judged_of t (space poses.now ends.now edges.now fixed.now) }
     ensures value_2 { new.new ≡ patterns binary64 (run_of t (space poses.now ends.now edges.now fixed.now)).out }
 {
     let n = poses.len();
-    let m = edges.len();
-    let doubled = doubles(poses);
-    let singled = singles(edges);
-    let mut out = blank_doubles();
-    let a = judge_over(t, &doubled[..n], ends, &singled[..m], fixed, &mut out[..n]);
-    bits(&out[..n], new);
+    // 256 poses and 1,024 edges.
+    let mut doubles = blank::<f64, 3072>(0.0);
+    let doubled = &mut doubles[..n];
+    convert(poses, doubled, double_of);
+    let mut singles = blank::<f32, 8192>(0.0);
+    let singled = &mut singles[..edges.len()];
+    convert(edges, singled, job_terms::single_of);
+    let mut zeros = blank::<f64, 3072>(0.0);
+    let out = &mut zeros[..n];
+    let a = judge_over(t, doubled, ends, singled, fixed, out);
+    convert(out, new, bits_of);
     a
 }
 
-// Room for the bits of 256 poses, 1,024 edges and 256 fixed entries.
-fn blank_poses() -> [u64; 3072]
-    ensures { length result ≡ 3072 }
-{
-    [0; 3072]
-}
-
-fn blank_ends() -> [u32; 2048]
-    ensures { length result ≡ 2048 }
-{
-    [0; 2048]
-}
-
-fn blank_edges() -> [u32; 8192]
-    ensures { length result ≡ 8192 }
-{
-    [0; 8192]
-}
-
-fn blank_fixed() -> [u32; 256]
-    ensures { length result ≡ 256 }
-{
-    [0; 256]
-}
-
-// Room for the bytes of 16 poses, 64 edges and 16 fixed entries.
-fn blank_output() -> [u8; 4568]
-    ensures { length result ≡ 4568 }
-{
-    [0; 4568]
-}
-
 fn refused(r: Refusal) -> Joining
-    ensures { result ≡ record { report = Report.Refused r; bytes = 0 } }
+    ensures { result ≡ record { report = Err r; bytes = 0 } }
 {
     Joining {
-        report: Report::Refused(r),
+        report: Err(r),
         bytes: 0,
     }
 }
@@ -241,18 +173,26 @@ fn join_read(
     ensures { (result.report, result.bytes, out.new) ≡
         joined_with had (job_of t (space poses.now ends.now edges.now fixed.now)) out.old }
 {
-    let n = poses.len();
-    let mut new = blank_poses();
-    let a = run_job(t, poses, ends, edges, fixed, &mut new[..n]);
-    let report = match a {
-        Judged::Ran(j, p) => Report::Ran(had.poses, had.edges, j.iterations, j.converged, p),
-        Judged::Refused(r) => {
-            return refused(r);
-        }
+    let mut room = blank::<u64, 3072>(0);
+    let new = &mut room[..poses.len()];
+    let a = run_job(t, poses, ends, edges, fixed, new);
+    let (run, printable) = match a {
+        Ok(judged) => judged,
+        Err(r) => return refused(r),
     };
-    match job::write_job(t, &new[..n], ends, edges, fixed, out) {
-        Written::Bytes(k) => Joining { report, bytes: k },
-        Written::Refused(r) => refused(r),
+    let report = Report {
+        poses: had.poses,
+        edges: had.edges,
+        iterations: run.iterations,
+        converged: run.converged,
+        printable,
+    };
+    match job::write_job(t, new, ends, edges, fixed, out) {
+        Ok(bytes) => Joining {
+            report: Ok(report),
+            bytes,
+        },
+        Err(r) => refused(r),
     }
 }
 
@@ -291,10 +231,11 @@ fn join_within(room: Tally, bytes: &[u8], out: &mut [u8]) -> Joining
     requires { (room.poses ≤ 256) × (room.edges ≤ 1024) × (room.fixed ≤ 256) }
     ensures { (result.report, result.bytes, out.new) ≡ joined_into room bytes.now out.old }
 {
-    let mut poses = blank_poses();
-    let mut ends = blank_ends();
-    let mut edges = blank_edges();
-    let mut fixed = blank_fixed();
+    // 256 poses, 1,024 edges and 256 fixed entries.
+    let mut poses = blank::<u64, 3072>(0);
+    let mut ends = blank::<u32, 2048>(0);
+    let mut edges = blank::<u32, 8192>(0);
+    let mut fixed = blank::<u32, 256>(0);
     let p = 12 * room.poses;
     let e = 2 * room.edges;
     let g = 8 * room.edges;
@@ -306,8 +247,8 @@ fn join_within(room: Tally, bytes: &[u8], out: &mut [u8]) -> Joining
         &mut edges[..g],
         &mut fixed[..f],
     ) {
-        Read::Refused(r) => refused(r),
-        Read::Job(t, had) => join_front(t, had, &poses, &ends, &edges, &fixed, out),
+        Err(r) => refused(r),
+        Ok((t, had)) => join_front(t, had, &poses, &ends, &edges, &fixed, out),
     }
 }
 
@@ -325,7 +266,7 @@ pub fn join(bytes: &[u8], out: &mut [u8]) -> Joining
 }
 
 // At the wish's own: 16 poses, 64 edges, 16 fixed entries, and nothing but a line is wanted. No job within these limits takes more than 4,568 bytes.
-pub fn join_small(bytes: &[u8]) -> Report
+pub fn join_small(bytes: &[u8]) -> Result<Report, Refusal>
     ensures { result ≡ report_of small_room bytes.now }
 {
     let room = Tally {
@@ -333,7 +274,8 @@ pub fn join_small(bytes: &[u8]) -> Report
         edges: 64,
         fixed: 16,
     };
-    let mut out = blank_output();
+    // The bytes of 16 poses, 64 edges and 16 fixed entries.
+    let mut out = blank::<u8, 4568>(0);
     let j = join_within(room, bytes, &mut out);
     j.report
 }
@@ -364,21 +306,18 @@ pub fn full_output() -> [u8; 72728]
 
 // ---- what a program says
 
-fn wide(n: u32) -> u64
-    ensures { result ≡ n }
-{
-    n as u64
-}
-
 // The line that a program prints.
-pub fn said(r: Report) -> Line
+pub fn said(r: Result<Report, Refusal>) -> Line
     ensures { result ≡ line_of (report_text r) }
 {
     match r {
-        Report::Ran(poses, edges, iterations, converged, _) => {
-            line::ran(poses as u64, edges as u64, wide(iterations), converged)
-        }
-        Report::Refused(r) => line::refused(wide(r.number), r.place as u64),
+        Ok(r) => line::ran(
+            r.poses as u64,
+            r.edges as u64,
+            u64::from(r.iterations),
+            r.converged,
+        ),
+        Err(r) => line::refused(u64::from(r.number), r.place as u64),
     }
 }
 
@@ -398,8 +337,8 @@ fn not_converged(iterations: u32, limit: u32) -> Line
         line::empty(),
         b"may be printed: no, not converged (iterations ",
     );
-    let l = line::with_text(line::with_decimal(l, wide(iterations)), b", limit ");
-    line::with_text(line::with_decimal(l, wide(limit)), b")\n")
+    let l = line::with_text(line::with_decimal(l, u64::from(iterations)), b", limit ");
+    line::with_text(line::with_decimal(l, u64::from(limit)), b")\n")
 }
 
 fn tipped(cosine: f64) -> Line
@@ -437,11 +376,11 @@ fn printable_said(p: Printable) -> Line
 }
 
 // `join`'s second line; an empty one, which says nothing, where the job was turned down.
-pub fn second_said(r: Report) -> Line
+pub fn second_said(r: Result<Report, Refusal>) -> Line
     ensures { result ≡ line_of (second_text r) }
 {
     match r {
-        Report::Ran(_, _, _, _, p) => printable_said(p),
-        Report::Refused(_) => line::empty(),
+        Ok(r) => printable_said(r.printable),
+        Err(_) => line::empty(),
     }
 }

@@ -3,12 +3,11 @@
 
 fn main(rt: HostRuntime) {
     let mut bytes = join_job::small_input();
-    let got = input::read_input(&mut rt.stdin(), &mut bytes);
-    if got.failed {
-        line::say(&mut rt.stderr(), line::unreadable());
-        return;
+    match input::read_input(&mut rt.stdin(), &mut bytes) {
+        Ok(n) => line::say(
+            &mut rt.stdout(),
+            join_job::said(join_job::join_small(&bytes[..n])),
+        ),
+        Err(_) => line::say(&mut rt.stderr(), line::unreadable()),
     }
-    let n = got.bytes;
-    let r = join_job::join_small(&bytes[..n]);
-    line::say(&mut rt.stdout(), join_job::said(r));
 }

@@ -1,11 +1,12 @@
 -- Laws of the parts of a float's text, over plain values: what lies between 0 and ten million fits a u64, digits one by one, and texts one behind another.
 -- Assumes nothing.
-use Rattle.std.proofs.Common.{◌≡◌, ℕ, ◌+◌, ◌-◌, ◌/◌, ◌%◌, ◌<◌, ◌≤◌, Bool, true, false, ◌||◌, T, ltb, List, [], ◌∷◌, ◌++◌, length, take, drop, pos, sym, refl, ap, ◌∙◌, subst, true≢false, div-one, arith, length-drop, take_all, ltb-false, le-ltb, lt-ltb, eq-eqb, ne_eqb}
-use lib.Ieee.{Float, fin, lt}
+use Rattle.std.proofs.Common.{◌≡◌, ℕ, ◌+◌, ◌-◌, ◌/◌, ◌%◌, ◌<◌, ◌≤◌, Bool, true, false, not, T, ltb, List, [], ◌∷◌, ◌++◌, length, take, drop, pos, sym, refl, ap, ◌∙◌, subst, div-one, arith, length-drop, take_all, le-ltb, lt-ltb, eq-eqb, ne_eqb}
+use lib.Ieee.{Float, fin, lt, ne, is_nan}
 use Rattle.numbers.specs.Notation.{◌⊕◌, num, ratio}
 use Rattle.numbers.specs.Walks.{table}
 use Rattle.numbers.proofs.Choices.{taken, left}
 use Rattle.numbers.proofs.Order.{lt_through}
+use Rattle.numbers.proofs.Read.{no_nan, is_nan_lem}
 use Rattle.numbers.proofs.Tables.{length_table}
 use Rattle.line.specs.declared.Line.{Line}
 use Rattle.line.specs.declared.ByTens.{ByTens}
@@ -98,14 +99,17 @@ power_above l d h =
     two_behind l (pointed d.digits 1) (ascii "e+") (decimal (d.tens - 400))
     ∙ ap (λ (t : List ℕ). with_text l (pointed d.digits 1 ++ t)) (left _ (le-ltb d.tens 400 h) refl)
 
--- what is not written with a power lies from −4 to 5
-pub plain_between : (t : ℕ) → ltb t 396 || ltb 405 t ≡ false → (396 ≤ t) × (t ≤ 405)
-plain_between t h = (go (ltb t 396) (ltb-false t 396) h, go' (ltb t 396) h)
-  where
-    go : (b : Bool) → (b ≡ false → 396 ≤ t) → b || ltb 405 t ≡ false → 396 ≤ t
-    go true f g = absurd (true≢false g)
-    go false f g = f refl
+-- ---- what is no number
 
-    go' : (b : Bool) → b || ltb 405 t ≡ false → t ≤ 405
-    go' true g = absurd (true≢false g)
-    go' false g = ltb-false 405 t g
+is_false : (b : Bool) → T (not b) → b ≡ false
+is_false true h = absurd h
+is_false false h = refl
+
+-- only a NaN differs from itself
+pub nan_differs : (x : Float) → is_nan x ≡ ne x x
+unfolding is_nan
+nan_differs x = go (ne x x) refl
+  where
+    go : (b : Bool) → ne x x ≡ b → is_nan x ≡ b
+    go true h = ap is_nan (is_nan_lem x h)
+    go false h = is_false (is_nan x) (no_nan x h)

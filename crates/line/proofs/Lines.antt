@@ -2,7 +2,6 @@
 use Rattle.std.proofs.Common.{◌≡◌, ℕ, zero, suc, ◌+◌, ◌-◌, ◌/◌, ◌%◌, ◌^◌, ◌<◌, ◌≤◌, Bool, true, false, ltb, List, [], ◌∷◌, ◌++◌, length, get_or, take, set, sym, refl, ap, ◌∙◌, ⊎_elim, append_assoc, append-nil, eq-zero-or-pos, pow-suc, arith, lit<, lit≤, length-append, length-set, take-suc, take-suc-set, le-ltb, lt-ltb}
 use native.Mathlib.Nat.{pow-le-pow_right}
 use lib.ListN.{length-replicate}
-use lib.Seq.{take-length}
 use Rattle.io.specs.Digits.{hex_digit_ascii, last_digits, IsDigitCount}
 use Rattle.numbers.specs.Notation.{if_then}
 use Rattle.numbers.proofs.Choices.{taken, left}
@@ -25,9 +24,6 @@ unfolding with_text
 text_more l r t i h e =
     let z : i + 1 ≡ suc i = omega arith in
     rw (z, e, take-suc t i 0 h) (text_after l (take i t) (get_or t i 0 ∷ []))
-
-pub text_all : (l r : Line) (t : List ℕ) (i : ℕ) → length t ≤ i → i ≤ length t → r ≡ with_text l (take i t) → r ≡ with_text l t
-text_all l r t i h g e = let z : i ≡ length t = omega arith in e ∙ ap (with_text l) (ap (λ (k : ℕ). take k t) z ∙ take-length t)
 
 -- a text behind a line's text, and so piece by piece
 behind : {l : Line} (t u : List ℕ) → l ≡ line_of t → with_text l u ≡ line_of (t ++ u)

@@ -1,4 +1,5 @@
 // What programs say, as lines by value: texts, numbers in decimal, floats with six digits, and the lines of a job's run (document 02, Wishes 1 and 2).
+// Own functions print and not `write!`: the promises speak of a line by value, and what `write!` makes of a float no promise can name.
 #![tactic(auto)]
 
 ghost use Rattle.std.specs.Prelude.{◌≡◌, ◌+◌, ◌%◌, ◌<◌, ◌≤◌, OnOk, length, take};
@@ -9,7 +10,7 @@ ghost use Rattle.std.specs.Io.KnownBytes.{Appends};
 
 use std::io::Write;
 
-// The first `used` bytes are the text.
+// The first `used` bytes are the text. An array with a count beside it, since nothing is allocated.
 #[derive(Clone, Copy)]
 pub struct Line {
     pub bytes: [u8; 256],
@@ -25,17 +26,12 @@ pub fn empty() -> Line
     }
 }
 
-fn with_byte(l: Line, b: u8) -> Line
+fn with_byte(mut l: Line, b: u8) -> Line
     ensures { result ≡ with_byte l b }
 {
-    let mut bytes = l.bytes;
-    let used = l.used;
-    if used < 256 {
-        bytes[used] = b;
-        return Line {
-            bytes,
-            used: used + 1,
-        };
+    if l.used < 256 {
+        l.bytes[l.used] = b;
+        l.used += 1;
     }
     l
 }
@@ -45,10 +41,8 @@ pub fn with_text(l: Line, text: &[u8]) -> Line
     ensures { result ≡ with_text l text.now }
 {
     let mut r = l;
-    let mut i = 0usize;
-    while i < text.len() {
-        r = with_byte(r, text[i]);
-        i += 1;
+    for b in text {
+        r = with_byte(r, *b);
     }
     r
 }
@@ -139,11 +133,8 @@ fn by_tens(x: f64) -> ByTens
 fn whole_part(v: f64) -> u64
     ensures { result ≡ whole_part v }
 {
-    if 0.0 < v {
-        if v < 10000000.0 {
-            return std::num::truncating_f64_to_u64(v);
-        }
-        return 0;
+    if 0.0 < v && v < 10000000.0 {
+        return std::num::truncating_f64_to_u64(v);
     }
     0
 }
@@ -229,7 +220,7 @@ fn with_six(l: Line, d: SixDigits) -> Line
     ensures { result ≡ with_text l (six_text d) }
 {
     let tens = d.tens;
-    if (tens < UNIT_PLACE - 4) | (UNIT_PLACE + 5 < tens) {
+    if tens < UNIT_PLACE - 4 || UNIT_PLACE + 5 < tens {
         return with_power(l, d);
     }
     with_plain(l, d)
@@ -241,7 +232,7 @@ fn with_size(l: Line, x: f64) -> Line
     if x == 0.0 {
         return with_text(l, b"0");
     }
-    if x < 1.0 / 0.0 {
+    if x < f64::INFINITY {
         return with_six(l, rounded_six(by_tens(x)));
     }
     with_text(l, b"inf")
@@ -251,10 +242,10 @@ fn with_size(l: Line, x: f64) -> Line
 pub fn with_float(l: Line, x: f64) -> Line
     ensures { result ≡ with_text l (float_text x) }
 {
-    if x != x {
+    if x.is_nan() {
         return with_text(l, b"nan");
     }
-    if 0x8000_0000_0000_0000 <= f64::to_bits(x) {
+    if 0x8000_0000_0000_0000 <= x.to_bits() {
         return with_size(with_text(l, b"-"), -x);
     }
     with_size(l, x)

@@ -1,4 +1,6 @@
 -- An assembly alone: into scratch, then over the first n (n + 3) numbers of the work; and what the checks leave known. Assumes nothing.
+use Rattle.assembly.specs.declared.AssemblyError.{AssemblyError}
+use Rattle.std.specs.Prelude.{Err, Ok, Result, ⊤}
 use mathlib.Core.Path.{◌≡◌, refl, sym, ap, ap₂, ◌∙◌}
 use mathlib.Core.List.{List, [], ◌++◌, append-nil}
 use Prim.Native.Nat.{ℕ, ◌+◌, ◌*◌, ◌≤◌}
@@ -22,21 +24,19 @@ use Rattle.graph.specs.declared.Edge.{Edge}
 use Rattle.graph.specs.declared.Manifold.{Manifold}
 use Rattle.graph.specs.declared.Manifold.TheVariants.{Se3, Gravity}
 use Rattle.checks.specs.declared.Counts.{Counts}
-use Rattle.checks.specs.declared.Checked.TheVariants as checked
 use Rattle.checks.specs.declared.Checks.{Checks}
 use Rattle.graph.proofs.Degrees.{dof_most}
 use Rattle.checks.proofs.Passed.{PassedGraph, fit_graph}
 use Rattle.retraction.specs.Retraction.{unit_of}
 use Rattle.profile.specs.Layout.{need}
 use Rattle.assembly.specs.Assembly.{cleared, assembled_ends, assembled_from, assembled_of}
-use Rattle.assembly.specs.declared.Assembled.{Assembled}
 use Rattle.checks.proofs.Slots.{links_same}
 use Rattle.normal_system.specs.forms.Building.{built_number}
 use Rattle.normal_system.specs.NormalSystem.{assembling, system_out, assemble_from, system_of}
 
 -- ---- into scratch: work of exactly n (n + 3) numbers, what stood in it does not count
 
-module _ (m : Manifold) (n : ℕ) (l : Links Edge) (pose : ℕ → Pose) (w sys last : List Float) (made : Assembled)
+module _ (m : Manifold) (n : ℕ) (l : Links Edge) (pose : ℕ → Pose) (w sys last : List Float) (made : Result ⊤ AssemblyError)
     (e : length w ≡ need n) (room : length w ≤ length sys) (h : (made, last) ≡ assembled_of m n l pose (take (length w) sys)) where
   abbrev found : Ended (List Float)
   found = assembled_ends m n l pose []
@@ -53,7 +53,7 @@ module _ (m : Manifold) (n : ℕ) (l : Links Edge) (pose : ℕ → Pose) (w sys 
   made_is = h ∙ whole (take (length w) sys) (length-take-le (length w) sys room ∙ e)
 
   said : made ≡ (assembled_from found).0
-  said = ap (λ (z : Assembled × List Float). z.0) made_is
+  said = ap (λ (z : Result ⊤ AssemblyError × List Float). z.0) made_is
 
   none_left : drop (need n) w ≡ []
   none_left = drop_of_length-le w (le_of_eq e)
@@ -62,7 +62,7 @@ module _ (m : Manifold) (n : ℕ) (l : Links Edge) (pose : ℕ → Pose) (w sys 
   row_is e = e ∙ ap built_number said
 
   pub built : {r : ℕ} → r ≡ built_number made → r ≡ 0 → (v : List Float) → v ≡ last → (0, v) ≡ system_out n w found
-  built {r} e z v ev = go found (row_is e) (ap (λ (x : Assembled × List Float). x.1) made_is)
+  built {r} e z v ev = go found (row_is e) (ap (λ (x : Result ⊤ AssemblyError × List Float). x.1) made_is)
     where
       go : (x : Ended (List Float)) → r ≡ built_number (assembled_from x).0 → last ≡ (assembled_from x).1 → (0, v) ≡ system_out n w x
       go (done s) b a = rw (none_left, append-nil) (ap (λ (x : List Float). (0, x)) (ev ∙ a))
@@ -91,12 +91,12 @@ module _ (m : Manifold) (poses : List Float) (ends : List ℕ) (edges : List Flo
   abbrev i : Input
   i = assembling m poses ends edges fixed w
 
-  pub turned_down : {x : Refusal} → r.answer ≡ checked.Turned x → (x.number, w) ≡ system_of i w
+  pub turned_down : {x : Refusal} → r.answer ≡ Err x → (x.number, w) ≡ system_of i w
   unfolding system_of
   turned_down q = ap (assemble_from i w) (sym q ∙ ap (λ (z : Checks). z.answer) e)
 
-  module _ (c : Counts) (q : r.answer ≡ checked.Fit c) (dof : ℕ) (d : dof ≡ dof_of m) where
-    fitting : (graph_checks i).answer ≡ checked.Fit c
+  module _ (c : Counts) (q : r.answer ≡ Ok c) (dof : ℕ) (d : dof ≡ dof_of m) where
+    fitting : (graph_checks i).answer ≡ Ok c
     fitting = ap (λ (z : Checks). z.answer) (sym e) ∙ q
 
     passed : PassedGraph i
@@ -108,7 +108,7 @@ module _ (m : Manifold) (poses : List Float) (ends : List ℕ) (edges : List Flo
     n_is : dof * c.free ≡ dof_of m * free_count (graph_of i)
     n_is = ap₂ (λ (a b : ℕ). a * b) d free_is
 
-    pub n_most : dof * c.free ≤ 384
+    n_most : dof * c.free ≤ 384
     n_most = rw n_is (mul-le-mul (dof_most m) passed.most_free)
 
     pub need_most : need (dof * c.free) ≤ 148608

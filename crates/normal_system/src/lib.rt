@@ -7,19 +7,17 @@ ghost use Rattle.profile.specs.Layout.{need};
 ghost use Rattle.normal_system.specs.NormalSystem.{assembling, system_of};
 ghost use Rattle.normal_system.specs.forms.Building.{built_out, built_number};
 
-use assembly::Assembled;
-use checks::Checked;
+use assembly::AssemblyError;
 use graph::Manifold;
 use rows::Room;
 
 // The answer of an assembly alone: 0, or the row that refuses it.
-fn built_number(a: Assembled) -> u32
+fn built_number(a: Result<(), AssemblyError>) -> u32
     ensures { result ≡ built_number a }
 {
     match a {
-        Assembled::Done => 0,
-        Assembled::Bad { edge: _, why: _ } => 21,
-        Assembled::Short => 21,
+        Ok(()) => 0,
+        Err(_) => 21,
     }
 }
 
@@ -51,48 +49,23 @@ fn build_over(
     if row != 0 {
         return row;
     }
-    slices::copy32(system, work);
+    work.copy_from_slice(&system[..count]);
     0
 }
 
 // Scratch is cleared before it is used, and that takes time: so there are three sizes. The first two are those of an evening's fifty views, one of them fixed.
 
-// Fifty views with gravity: 196 (196 + 3).
-fn build_small(
-    m: Manifold,
-    poses: &[f64],
-    ends: &[u32],
-    edges: &[f32],
-    blocks: &[u32; 256],
-    free: u32,
-    work: &mut [f32],
-) -> u32
-    requires { (length work.old ≡ need (dof_of m * free)) × (length work.old ≤ 39004) }
-    ensures { (result, work.new) ≡ built_out m poses.now ends.now edges.now blocks.now free work.old }
-{
-    let mut system = [0.0f32; 39004];
-    build_over(m, poses, ends, edges, blocks, free, &mut system, work)
-}
+// Fifty views with gravity.
+const FIFTY_WITH_GRAVITY: usize = 196 * (196 + 3);
 
-// Fifty views: 294 (294 + 3).
-fn build_middle(
-    m: Manifold,
-    poses: &[f64],
-    ends: &[u32],
-    edges: &[f32],
-    blocks: &[u32; 256],
-    free: u32,
-    work: &mut [f32],
-) -> u32
-    requires { (length work.old ≡ need (dof_of m * free)) × (length work.old ≤ 87318) }
-    ensures { (result, work.new) ≡ built_out m poses.now ends.now edges.now blocks.now free work.old }
-{
-    let mut system = [0.0f32; 87318];
-    build_over(m, poses, ends, edges, blocks, free, &mut system, work)
-}
+// Fifty views.
+const FIFTY: usize = 294 * (294 + 3);
 
-// The most, 64 free poses: 384 (384 + 3).
-fn build_large(
+// The most, 64 free poses.
+const MOST: usize = 384 * (384 + 3);
+
+// The same in scratch of N numbers.
+fn build_sized<const N: usize>(
     m: Manifold,
     poses: &[f64],
     ends: &[u32],
@@ -101,10 +74,10 @@ fn build_large(
     free: u32,
     work: &mut [f32],
 ) -> u32
-    requires { (length work.old ≡ need (dof_of m * free)) × (length work.old ≤ 148608) }
+    requires { (length work.old ≡ need (dof_of m * free)) × (length work.old ≤ N) × (N ≤ 148608) }
     ensures { (result, work.new) ≡ built_out m poses.now ends.now edges.now blocks.now free work.old }
 {
-    let mut system = [0.0f32; 148608];
+    let mut system = [0.0f32; N];
     build_over(m, poses, ends, edges, blocks, free, &mut system, work)
 }
 
@@ -120,16 +93,17 @@ fn build(
     requires { (length work.old ≡ need (dof_of m * free)) × (length work.old ≤ 148608) }
     ensures { (result, work.new) ≡ built_out m poses.now ends.now edges.now blocks.now free work.old }
 {
-    if work.len() <= 39004 {
-        return build_small(m, poses, ends, edges, blocks, free, work);
+    if work.len() <= FIFTY_WITH_GRAVITY {
+        return build_sized::<FIFTY_WITH_GRAVITY>(m, poses, ends, edges, blocks, free, work);
     }
-    if work.len() <= 87318 {
-        return build_middle(m, poses, ends, edges, blocks, free, work);
+    if work.len() <= FIFTY {
+        return build_sized::<FIFTY>(m, poses, ends, edges, blocks, free, work);
     }
-    build_large(m, poses, ends, edges, blocks, free, work)
+    build_sized::<MOST>(m, poses, ends, edges, blocks, free, work)
 }
 
-// The number of the row that refuses, or 0: H and gradient in the first n (n + 3) numbers of the work, the rest of these +0.
+// The number of the row that refuses, or 0, since C is told just that (`pgo_assemble`, its one caller): H and gradient in the first n (n + 3) numbers of the
+// work, the rest of these +0.
 pub fn assemble_alone(
     m: Manifold,
     poses: &[f64],
@@ -149,8 +123,8 @@ pub fn assemble_alone(
     let answer = checks.answer;
     let blocks = checks.blocks;
     match answer {
-        Checked::Turned(r) => r.number,
-        Checked::Fit(c) => {
+        Err(r) => r.number,
+        Ok(c) => {
             let n = graph::dof(m) * (c.free as usize);
             let count = n * (n + 3);
             build(

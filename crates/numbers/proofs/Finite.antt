@@ -1,17 +1,14 @@
--- The tests by which the code asks whether a float is finite, at either format. Assumes nothing.
-use Rattle.std.proofs.Common.{◌≡◌, true, false, sym, refl}
-use lib.Ieee.{Float, nan, inf, fin, lt}
+-- std's test for a finite float is that of the definitions. Assumes nothing.
+use Rattle.std.proofs.Common.{◌≡◌, Bool, refl, ◌∙◌}
+use Rattle.std.specs.Float.{float_is_finite}
+use lib.Ieee.{Float, nan, inf, fin}
 use lib.Ieee.Scale.{finite}
 
-pub below_top : (x : Float) → lt x (inf false) ≡ true → lt (inf true) x ≡ finite x
-unfolding lt
-below_top nan e = refl
-below_top (inf true) e = refl
-below_top (inf false) e = sym e
-below_top (fin s m e) h = refl
+pub same_finite : (x : Float) → float_is_finite x ≡ finite x
+unfolding float_is_finite
+same_finite nan = refl
+same_finite (inf s) = refl
+same_finite (fin s m e) = refl
 
-pub not_below_top : (x : Float) → lt x (inf false) ≡ false → false ≡ finite x
-unfolding lt
-not_below_top nan e = refl
-not_below_top (inf s) e = refl
-not_below_top (fin s m e) h = sym h
+pub finite_test : (x : Float) {b : Bool} → b ≡ float_is_finite x → b ≡ finite x
+finite_test x e = e ∙ same_finite x

@@ -1,18 +1,16 @@
 -- Two rows of steps side by side: what relates their states before each pair of steps that goes well relates them at the end; and beside itself one row,
 -- so that what holds of its state before each such step holds at the end. Something weaker holds where a step does not go well. Assumes nothing.
-use Rattle.std.proofs.Common.{◌≡◌, ℕ, zero, suc, ◌<◌, Bool, true, false, refl, subst, arith}
-use Rattle.numbers.specs.declared.Went.{Went}
-use Rattle.numbers.specs.declared.Went.TheVariants.{Well, Bad}
-use Rattle.numbers.specs.Walks.{Ended, done, stopped, step_end, step_on, each, well, only, and_then}
+use Rattle.std.proofs.Common.{◌≡◌, ℕ, zero, suc, ◌<◌, Bool, true, false, refl, subst, arith, Err, Ok}
+use Rattle.numbers.specs.Walks.{Ended, done, stopped, step_end, step_on, each, well, only, and_then, Went}
 
 -- ---- two rows
 module _ {S : Type 0} (P Q : S → S → Type 0) where
   -- both steps say the same: P of what they leave that went well, Q of what any others leave
   abbrev pub Together : Went × S → Went × S → Type 0
-  Together (Well, s) (Well, t) = P s t
-  Together (Bad why, s) (Bad because, t) = (why ≡ because) × Q s t
-  Together (Well, s) (Bad because, t) = ⊥
-  Together (Bad why, s) (Well, t) = ⊥
+  Together (Ok _, s) (Ok _, t) = P s t
+  Together (Err why, s) (Err because, t) = (why ≡ because) × Q s t
+  Together (Ok _, s) (Err because, t) = ⊥
+  Together (Err why, s) (Ok _, t) = ⊥
 
   abbrev pub Abreast : Ended S → Ended S → Type 0
   Abreast (done s) (done t) = P s t
@@ -21,10 +19,10 @@ module _ {S : Type 0} (P Q : S → S → Type 0) where
   Abreast (stopped k why s) (done t) = ⊥
 
   turn_abreast : (n : ℕ) (x y : Went × S) → Together x y → Abreast (step_end n x) (step_end n y)
-  turn_abreast n (Well, s) (Well, t) p = p
-  turn_abreast n (Bad why, s) (Bad because, t) q = (refl, q.0, q.1)
-  turn_abreast n (Well, s) (Bad because, t) z = z
-  turn_abreast n (Bad why, s) (Well, t) z = z
+  turn_abreast n (Ok _, s) (Ok _, t) p = p
+  turn_abreast n (Err why, s) (Err because, t) q = (refl, q.0, q.1)
+  turn_abreast n (Ok _, s) (Err because, t) z = z
+  turn_abreast n (Err why, s) (Ok _, t) z = z
 
   pub each_abreast : (f g : ℕ → S → Went × S) (n : ℕ) (s t : S) → ((k : ℕ) → k < n → (s t : S) → P s t → Together (f k s) (g k t)) → P s t → Abreast (each f n s) (each g n t)
   unfolding each
@@ -48,10 +46,10 @@ module _ {S : Type 0} (P Q : S → S → Type 0) where
 
   pub then_together : (x y : Went × S) (f g : S → Went × S) → Together x y → ((s t : S) → P s t → Together (f s) (g t)) → Together (and_then x f) (and_then y g)
   unfolding and_then
-  then_together (Well, s) (Well, t) f g p h = h s t p
-  then_together (Bad why, s) (Bad because, t) f g q h = q
-  then_together (Well, s) (Bad because, t) f g z h = absurd z
-  then_together (Bad why, s) (Well, t) f g z h = absurd z
+  then_together (Ok _, s) (Ok _, t) f g p h = h s t p
+  then_together (Err why, s) (Err because, t) f g q h = q
+  then_together (Ok _, s) (Err because, t) f g z h = absurd z
+  then_together (Err why, s) (Ok _, t) f g z h = absurd z
 
   pub only_together : (b : Bool) (f g : S → Went × S) (s t : S) → P s t → Together (f s) (g t) → Together (only b f s) (only b g t)
   only_together true f g s t p h = h
@@ -61,8 +59,8 @@ module _ {S : Type 0} (P Q : S → S → Type 0) where
 module _ {S : Type 0} (P Q : S → Type 0) where
   -- P of what a step leaves that went well, Q of what any other leaves
   abbrev pub Good : Went × S → Type 0
-  Good (Well, s) = P s
-  Good (Bad why, s) = Q s
+  Good (Ok _, s) = P s
+  Good (Err why, s) = Q s
 
   abbrev pub Over : Ended S → Type 0
   Over (done s) = P s
@@ -79,8 +77,8 @@ module _ {S : Type 0} (P Q : S → Type 0) where
   beside f s t p h = subst (λ (t : S). Together Twin Lost (f s) (f t)) p.1 (go (f s) h)
     where
       go : (x : Went × S) → Good x → Together Twin Lost x x
-      go (Well, s) p = (p, refl)
-      go (Bad why, s) q = (refl, q)
+      go (Ok _, s) p = (p, refl)
+      go (Err why, s) q = (refl, q)
 
   pub alone : (x : Ended S) → Abreast Twin Lost x x → Over x
   alone (done s) p = p.0

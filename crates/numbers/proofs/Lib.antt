@@ -14,6 +14,7 @@ pub mod Speaking
 pub mod Foremost
 pub mod Order
 pub mod Finite
+pub mod Question
 pub mod Write
 pub mod Word
 pub mod Read

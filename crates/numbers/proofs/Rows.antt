@@ -1,16 +1,14 @@
 -- A row of steps taken as one step: a row of rows is one row; and what a row says whose steps say what tests say. Assumes nothing.
-use Rattle.std.proofs.Common.{◌≡◌, ℕ, zero, suc, ◌+◌, ◌*◌, ◌<◌, Bool, true, false, ◌&&◌, sym, refl, ap, ◌∙◌, add-zero, add-suc, suc-mul, zero-mul, arith}
+use Rattle.std.proofs.Common.{◌≡◌, ℕ, zero, suc, ◌+◌, ◌*◌, ◌<◌, Bool, true, false, ◌&&◌, sym, refl, ap, ◌∙◌, add-zero, add-suc, suc-mul, zero-mul, arith, Err, Ok}
 use mathlib.Core.Path.{fun_ext}
 use Rattle.numbers.specs.Notation.{if_then}
-use Rattle.numbers.specs.Walks.{Ended, done, stopped, every, step_end, step_on, each, well, and_then}
+use Rattle.numbers.specs.Walks.{Ended, done, stopped, every, step_end, step_on, each, well, and_then, Went}
 use Rattle.numbers.specs.declared.Failure.TheVariants.{Numerical}
-use Rattle.numbers.specs.declared.Went.{Went}
-use Rattle.numbers.specs.declared.Went.TheVariants.{Well, Bad}
 
 module _ {S : Type 0} where
   well_turn : (n : ℕ) (x : Went × S) → well (step_end n x) ≡ x
-  well_turn n (Well, s) = refl
-  well_turn n (Bad why, s) = refl
+  well_turn n (Ok _, s) = refl
+  well_turn n (Err why, s) = refl
 
   each_then : (f : ℕ → S → Went × S) (n : ℕ) (s : S) → well (each f (suc n) s) ≡ and_then (well (each f n s)) (f n)
   unfolding each and_then
@@ -22,13 +20,13 @@ module _ {S : Type 0} where
 
   then_then : (x : Went × S) (f g : S → Went × S) → and_then (and_then x f) g ≡ and_then x (λ s. and_then (f s) g)
   unfolding and_then
-  then_then (Well, s) f g = refl
-  then_then (Bad why, s) f g = refl
+  then_then (Ok _, s) f g = refl
+  then_then (Err why, s) f g = refl
 
-  then_well : (x : Went × S) → x ≡ and_then x (λ t. (Well, t))
+  then_well : (x : Went × S) → x ≡ and_then x (λ t. (Ok tt, t))
   unfolding and_then
-  then_well (Well, s) = refl
-  then_well (Bad why, s) = refl
+  then_well (Ok _, s) = refl
+  then_well (Err why, s) = refl
 
   each_split : (f : ℕ → S → Went × S) (n k : ℕ) (s : S) → well (each f (n + k) s) ≡ and_then (well (each f n s)) (λ t. well (each (λ c. f (n + c)) k t))
   unfolding each
@@ -51,17 +49,17 @@ module _ {S : Type 0} where
 
 -- what a step says whose test must hold
 abbrev pub told : Bool → Went
-told b = if_then b Well (Bad Numerical)
+told b = if_then b (Ok tt) (Err Numerical)
 
 module _ {S : Type 0} where
   then_told : (J K : S → Type 0) (x : Went × S) (g : S → Went × S) (b t : Bool)
       → x.0 ≡ told b → (b ≡ true → J x.1) → ((s : S) → J s → ((g s).0 ≡ told t) × (t ≡ true → K (g s).1))
       → ((and_then x g).0 ≡ told (b && t)) × ((b && t) ≡ true → K (and_then x g).1)
   unfolding and_then if_then
-  then_told J K (Well, s) g true t e j h = h s (j refl)
-  then_told J K (Well, s) g false t e j h = absurd (let z : ◌≡◌ {A = ℕ} 0 1 = cc in omega arith)
-  then_told J K (Bad why, s) g true t e j h = absurd (let z : ◌≡◌ {A = ℕ} 0 1 = cc in omega arith)
-  then_told J K (Bad why, s) g false t e j h = (e, λ q. absurd (let z : ◌≡◌ {A = ℕ} 0 1 = cc in omega arith))
+  then_told J K (Ok _, s) g true t e j h = h s (j refl)
+  then_told J K (Ok _, s) g false t e j h = absurd (let z : ◌≡◌ {A = ℕ} 0 1 = cc in omega arith)
+  then_told J K (Err why, s) g true t e j h = absurd (let z : ◌≡◌ {A = ℕ} 0 1 = cc in omega arith)
+  then_told J K (Err why, s) g false t e j h = (e, λ q. absurd (let z : ◌≡◌ {A = ℕ} 0 1 = cc in omega arith))
 
   -- I k holds before step k, which then says what test k says, and I (k + 1) after it if that holds
   pub each_told : (I : ℕ → S → Type 0) (t : ℕ → Bool) (f : ℕ → S → Went × S) (n : ℕ) (s : S)

@@ -1,13 +1,11 @@
 -- One more term of a sum, one more turn of a row of steps, one more test: the laws by which a loop meets a walk. Assumes nothing.
-use Rattle.std.proofs.Common.{◌≡◌, ℕ, zero, suc, ◌+◌, ◌-◌, ◌<◌, ◌≤◌, Bool, true, false, cond, ◌&&◌, ◌||◌, ltb, sym, refl, ap, ◌∙◌, subst, ap₂, ⊎_elim, le_of_suc-le-suc, le-add_right, not-suc-le-zero, add-zero, add-suc, suc-add, eq-or-lt_of_le, zero-add, add-one, arith, ltb-false, ltb-true}
+use Rattle.std.proofs.Common.{◌≡◌, ℕ, zero, suc, ◌+◌, ◌-◌, ◌<◌, ◌≤◌, Bool, true, false, cond, ◌&&◌, ◌||◌, ltb, sym, refl, ap, ◌∙◌, subst, ap₂, ⊎_elim, le_of_suc-le-suc, le-add_right, not-suc-le-zero, add-zero, add-suc, suc-add, eq-or-lt_of_le, zero-add, add-one, arith, ltb-false, ltb-true, Err, Ok}
 use mathlib.Core.Bool.{or-true, and-false}
 use native.Mathlib.Decide.{le_ind}
 use lib.Ieee.{Float, Format, add}
 use Rattle.numbers.specs.declared.Failure.{Failure}
-use Rattle.numbers.specs.declared.Went.{Went}
-use Rattle.numbers.specs.declared.Went.TheVariants.{Well, Bad}
 use Rattle.numbers.proofs.Tests.{and_first, and_second}
-use Rattle.numbers.specs.Walks.{some, every, count, sum_of, Ended, done, stopped, step_end, step_on, each, well, and_then}
+use Rattle.numbers.specs.Walks.{some, every, count, sum_of, Ended, done, stopped, step_end, step_on, each, well, and_then, Went, made}
 
 pub sum_more : (k : Format) (f : ℕ → Float) (n : ℕ) (s : Float) → s ≡ sum_of k f n → add k s (f n) ≡ sum_of k f (n + 1)
 unfolding sum_of
@@ -53,18 +51,10 @@ some_never t zero h = refl
 some_never t (suc n) h = rw (some_never t n (λ k l. h k (omega arith)), h n (omega arith))
 
 -- ---- `every`
-pub every_more : (t : ℕ → Bool) (n : ℕ) → every t n ≡ true → t n ≡ true → every t (n + 1) ≡ true
-unfolding every
-every_more t n e h = rw (add-one n, e) h
-
 pub every_ext : (t u : ℕ → Bool) (n : ℕ) → ((k : ℕ) → k < n → t k ≡ u k) → every t n ≡ every u n
 unfolding every
 every_ext t u zero h = refl
 every_ext t u (suc n) h = ap₂ (λ (a b : Bool). a && b) (every_ext t u n (λ k l. h k (omega arith))) (h n (omega arith))
-
-pub every_none : (t : ℕ → Bool) → every t 0 ≡ true
-unfolding every
-every_none t = refl
 
 module _ (t : ℕ → Bool) where
   every_there : (n : ℕ) → t n ≡ false → every t (suc n) ≡ false
@@ -151,26 +141,26 @@ module _ {S : Type 0} (f : ℕ → S → Went × S) (s₀ : S) where
   unfolding each
   each_none = refl
 
-  pub each_more : (k : ℕ) {s t : S} → each f k s₀ ≡ done s → f k s ≡ (Well, t) → each f (k + 1) s₀ ≡ done t
+  pub each_more : (k : ℕ) {s t : S} → each f k s₀ ≡ done s → f k s ≡ (Ok tt, t) → each f (k + 1) s₀ ≡ done t
   unfolding each
   each_more k e h = rw (add-one k, e, h)
 
-  after : (k : ℕ) {why : Failure} {s t : S} → each f k s₀ ≡ done s → f k s ≡ (Bad why, t) → (d : ℕ) → each f (d + suc k) s₀ ≡ stopped k why t
+  after : (k : ℕ) {why : Failure} {s t : S} → each f k s₀ ≡ done s → f k s ≡ (Err why, t) → (d : ℕ) → each f (d + suc k) s₀ ≡ stopped k why t
   unfolding each
   after k e h zero = rw (zero-add (suc k), e, h)
   after k e h (suc d) = rw (suc-add d (suc k), after k e h d)
 
-  pub each_stop : (k : ℕ) {why : Failure} {s t : S} (n : ℕ) → each f k s₀ ≡ done s → f k s ≡ (Bad why, t) → k < n → each f n s₀ ≡ stopped k why t
+  pub each_stop : (k : ℕ) {why : Failure} {s t : S} (n : ℕ) → each f k s₀ ≡ done s → f k s ≡ (Err why, t) → k < n → each f n s₀ ≡ stopped k why t
   each_stop k n e h l = let q : n ≡ (n - suc k) + suc k = omega arith in ap (λ m. each f m s₀) q ∙ after k e h (n - suc k)
 
   -- at a return: all turns are done; or turn k has not gone well
   pub each_end : (k : ℕ) {s : S} (n : ℕ) → each f k s₀ ≡ done s → k ≡ n → each f n s₀ ≡ done s
   each_end k n e q = ap (λ m. each f m s₀) (sym q) ∙ e
 
-  pub each_all : (k : ℕ) {s : S} (n : ℕ) → each f k s₀ ≡ done s → k ≡ n → (Well, s) ≡ well (each f n s₀)
+  pub each_all : (k : ℕ) {s : S} (n : ℕ) → each f k s₀ ≡ done s → k ≡ n → (Ok tt, s) ≡ well (each f n s₀)
   each_all k n e q = sym (ap well (each_end k n e q))
 
-  pub each_early : (k : ℕ) {why : Failure} {s t : S} (n : ℕ) → each f k s₀ ≡ done s → f k s ≡ (Bad why, t) → k < n → (Bad why, t) ≡ well (each f n s₀)
+  pub each_early : (k : ℕ) {why : Failure} {s t : S} (n : ℕ) → each f k s₀ ≡ done s → f k s ≡ (Err why, t) → k < n → (Err why, t) ≡ well (each f n s₀)
   each_early k n e h l = sym (ap well (each_stop k n e h l))
 
 pub each_ext : {S : Type 0} (f g : ℕ → S → Went × S) (n : ℕ) (s : S) → ((k : ℕ) → k < n → (s : S) → f k s ≡ g k s) → each f n s ≡ each g n s
@@ -183,23 +173,23 @@ each_ext {S} f g (suc n) s h = rw (each_ext f g n s (λ k l. h k (omega arith)))
     go (stopped k why s) = refl
 
 -- every step of a row that went well went well, from somewhere
-pub each_went : {S : Type 0} (f : ℕ → S → Went × S) (n : ℕ) (s t : S) → each f n s ≡ done t → (k : ℕ) → k < n → (u : S) × ((f k u).0 ≡ Well)
+pub each_went : {S : Type 0} (f : ℕ → S → Went × S) (n : ℕ) (s t : S) → each f n s ≡ done t → (k : ℕ) → k < n → (u : S) × ((f k u).0 ≡ Ok tt)
 unfolding each
 each_went {S} f zero s t e k h = absurd (omega arith)
 each_went {S} f (suc n) s t e k h = go (each f n s) (λ v q l. each_went f n s v q k l) refl e
   where
-    last : (u : S) (x : Went × S) → f n u ≡ x → step_end n x ≡ done t → (f n u).0 ≡ Well
-    last u (Well, v) q r = rw q
-    last u (Bad why, v) q r = let z : ◌≡◌ {A = ℕ} 0 1 = cc in absurd (omega arith)
+    last : (u : S) (x : Went × S) → f n u ≡ x → step_end n x ≡ done t → (f n u).0 ≡ Ok tt
+    last u (Ok _, v) q r = rw q
+    last u (Err why, v) q r = let z : ◌≡◌ {A = ℕ} 0 1 = cc in absurd (omega arith)
 
-    go : (x : Ended S) → ((v : S) → each f n s ≡ done v → k < n → (u : S) × ((f k u).0 ≡ Well)) → each f n s ≡ x → step_on x n f ≡ done t
-        → (u : S) × ((f k u).0 ≡ Well)
+    go : (x : Ended S) → ((v : S) → each f n s ≡ done v → k < n → (u : S) × ((f k u).0 ≡ Ok tt)) → each f n s ≡ x → step_on x n f ≡ done t
+        → (u : S) × ((f k u).0 ≡ Ok tt)
     go (stopped j why v) ih q r = let z : ◌≡◌ {A = ℕ} 0 1 = cc in absurd (omega arith)
     go (done v) ih q r = pick (ltb k n) refl
       where
-        pick : (b : Bool) → ltb k n ≡ b → (u : S) × ((f k u).0 ≡ Well)
+        pick : (b : Bool) → ltb k n ≡ b → (u : S) × ((f k u).0 ≡ Ok tt)
         pick true l = ih v q (ltb-true k n l)
-        pick false l = let o = ltb-false k n l in let z : n ≡ k = omega arith in (v, subst (λ (i : ℕ). (f i v).0 ≡ Well) z (last v (f n v) refl r))
+        pick false l = let o = ltb-false k n l in let z : n ≡ k = omega arith in (v, subst (λ (i : ℕ). (f i v).0 ≡ Ok tt) z (last v (f n v) refl r))
 
 -- a row that stopped did so at one of its steps
 pub each_stopped : {S : Type 0} (f : ℕ → S → Went × S) (n : ℕ) (s : S) (k : ℕ) (why : Failure) (t : S) → each f n s ≡ stopped k why t → k < n
@@ -208,8 +198,8 @@ each_stopped {S} f zero s k why t e = let z : ◌≡◌ {A = ℕ} 0 1 = cc in ab
 each_stopped {S} f (suc n) s k why t e = go (each f n s) (λ h. each_stopped f n s k why t h) refl e
   where
     last : (x : Went × S) → step_end n x ≡ stopped k why t → k < suc n
-    last (Well, u) q = let z : ◌≡◌ {A = ℕ} 0 1 = cc in absurd (omega arith)
-    last (Bad w, u) q = let d : n ≡ k = cc in omega arith
+    last (Ok _, u) q = let z : ◌≡◌ {A = ℕ} 0 1 = cc in absurd (omega arith)
+    last (Err w, u) q = let d : n ≡ k = cc in omega arith
 
     go : (x : Ended S) → (each f n s ≡ stopped k why t → k < n) → each f n s ≡ x → step_on x n f ≡ stopped k why t → k < suc n
     go (done u) rec h q = last (f n u) q
@@ -217,10 +207,19 @@ each_stopped {S} f (suc n) s k why t e = go (each f n s) (λ h. each_stopped f n
 
 -- ---- a step, and the next
 module _ {S : Type 0} (x : Went × S) (k : S → Went × S) where
-  pub then_failed : {why : Failure} {s : S} → x ≡ (Bad why, s) → (Bad why, s) ≡ and_then x k
+  pub then_failed : {why : Failure} {s : S} → x ≡ (Err why, s) → (Err why, s) ≡ and_then x k
   unfolding and_then
   then_failed e = rw e
 
-  pub then_went : {s : S} {y : Went × S} → x ≡ (Well, s) → y ≡ k s → y ≡ and_then x k
+  pub then_went : {s : S} {y : Went × S} → x ≡ (Ok tt, s) → y ≡ k s → y ≡ and_then x k
   unfolding and_then
   then_went e q = rw e q
+
+-- ---- what a step leaves where it went well
+pub made_ok : {S : Type 0} (x : Went × S) {s : S} → made x ≡ Ok s → x ≡ (Ok tt, s)
+made_ok {S} (Ok _, t) {s} h = let e : t ≡ s = cc in ap (λ (s : S). (Ok tt, s)) e
+made_ok (Err why, t) h = absurd (let z : ◌≡◌ {A = ℕ} 0 1 = cc in omega arith)
+
+pub made_err : {S : Type 0} (x : Went × S) {why : Failure} → made x ≡ Err why → x ≡ (Err why, x.1)
+made_err (Ok _, t) h = absurd (let z : ◌≡◌ {A = ℕ} 0 1 = cc in omega arith)
+made_err (Err v, t) {why} h = let e : v ≡ why = cc in ap (λ (u : Failure). (Err u, t)) e

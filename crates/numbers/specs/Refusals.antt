@@ -1,22 +1,24 @@
 -- How a table of refusals is read (document 01, "What is turned down, and in what order"): its rows in order; in a row its places, rising; at a place its
 -- faults, in order. The first that is there speaks. Definitions only.
-use Rattle.std.specs.Prelude.{ℕ, zero, suc, Bool, true, false, List, [], ◌∷◌}
+use Rattle.std.specs.Prelude.{ℕ, zero, suc, Bool, true, false, List, [], ◌∷◌, Result, Ok, Err, ⊤}
 use Rattle.numbers.specs.declared.Refusal.{Refusal}
-use Rattle.numbers.specs.declared.Verdict.{Verdict}
-use Rattle.numbers.specs.declared.Verdict.TheVariants.{Fine, Refused}
+
+-- what a table of refusals says: nothing, or a refusal
+abbrev pub Verdict : Type 0
+Verdict = Result ⊤ Refusal
 
 abbrev pub refusal : ℕ → ℕ → Refusal
 refusal n p = record { number = n; place = p }
 
 -- what was said, or where nothing was, the next
 abbrev pub or_else : Verdict → Verdict → Verdict
-or_else Fine w = w
-or_else (Refused r) w = Refused r
+or_else (Ok _) w = w
+or_else (Err r) w = Err r
 
 -- number n at place p, if the test says that the fault is there
 abbrev pub ask : Bool → ℕ → ℕ → Verdict
-ask true n p = Refused (refusal n p)
-ask false n p = Fine
+ask true n p = Err (refusal n p)
+ask false n p = Ok tt
 
 -- a fault: its number in the paper, and which places have it
 pub record Fault : Type 0 where
@@ -32,11 +34,11 @@ ask_all v [] p = v
 ask_all v (f ∷ fs) p = ask_all (or_else v (ask (f.has p) f.number p)) fs p
 
 abbrev pub says : List Fault → ℕ → Verdict
-says fs p = ask_all Fine fs p
+says fs p = ask_all (Ok tt) fs p
 
 -- what the places 0, 1, .. below a count say: the lowest that says anything speaks
 abbrev pub lowest : List Fault → ℕ → Verdict
-lowest fs zero = Fine
+lowest fs zero = Ok tt
 lowest fs (suc n) = or_else (lowest fs n) (says fs n)
 
 -- a row of the table: how many places it looks at, and the faults that it looks for at each
@@ -58,4 +60,4 @@ read v [] = v
 read v (r ∷ rs) = read (or_else v (lowest r.faults r.places)) rs
 
 abbrev pub verdict : List Row → Verdict
-verdict rs = read Fine rs
+verdict rs = read (Ok tt) rs

@@ -1,7 +1,7 @@
 -- A pose to a transform and back, as pose_conversion.rs has them, and the validated forms of sparse_pgo.rs; which number is narrowed where: document 01,
 -- "Rotation arithmetic".
 -- A matrix given back to a pose is narrowed, then widened (document 01, "Rotation arithmetic").
-use Rattle.std.specs.Prelude.{Bool, ◌&&◌, Float}
+use Rattle.std.specs.Prelude.{Bool, ◌&&◌, Float, Err, Ok, Result}
 use Rattle.std.specs.Float.Ieee.Scale.{finite}
 use Rattle.numbers.specs.Notation.{if_then}
 use Rattle.rounding.specs.Rounding.{narrowed}
@@ -9,16 +9,8 @@ use Rattle.numbers.specs.declared.Failure.{Failure}
 use Rattle.numbers.specs.declared.Failure.TheVariants.{Numerical}
 use Rattle.rotations.specs.Rotation.{vec, matrix_of, wide}
 use Rattle.rotations.specs.FromMatrix.{quat_of_matrix}
-use Rattle.rotations.specs.declared.Vec3.{Vec3}
-use Rattle.rotations.specs.declared.Vec3F32.{Vec3F32}
-use Rattle.rotations.specs.declared.Mat3.{Mat3}
-use Rattle.rotations.specs.declared.Mat3F32.{Mat3F32}
-use Rattle.rotations.specs.declared.Transform.{Transform}
+use Rattle.rotations.specs.Formats.{Vec3, Vec3F32, Mat3, Mat3F32, Transform}
 use Rattle.rotations.specs.declared.Pose.{Pose}
-use Rattle.pose_conversion.specs.declared.Converted.{Converted}
-use Rattle.pose_conversion.specs.declared.Converted.TheVariants as converted
-use Rattle.pose_conversion.specs.declared.Restored.{Restored}
-use Rattle.pose_conversion.specs.declared.Restored.TheVariants as restored
 
 -- ---- vectors and matrices
 
@@ -66,25 +58,25 @@ finite_transform a =
     finite3 (m.x).x (m.x).y (m.x).z
     && (finite3 (m.y).x (m.y).y (m.y).z && (finite3 (m.z).x (m.z).y (m.z).z && finite3 (a.t).x (a.t).y (a.t).z))
 
-unfoldable pub valid_transform : Transform → Converted
-valid_transform a = if_then (finite_transform a) (converted.Into a) (converted.Bad Numerical)
+unfoldable pub valid_transform : Transform → Result Transform Failure
+valid_transform a = if_then (finite_transform a) (Ok a) (Err Numerical)
 
-unfoldable pub valid_pose : Pose → Restored
-valid_pose p = if_then (finite_pose p) (restored.Into p) (restored.Bad Numerical)
+unfoldable pub valid_pose : Pose → Result Pose Failure
+valid_pose p = if_then (finite_pose p) (Ok p) (Err Numerical)
 
 -- sparse_pgo.rs's `pose_to_se3` and `se3_to_pose`
-unfoldable pub checked_transform : Pose → Converted
-checked_transform p = if_then (finite_pose p) (valid_transform (transform_of p)) (converted.Bad Numerical)
+unfoldable pub checked_transform : Pose → Result Transform Failure
+checked_transform p = if_then (finite_pose p) (valid_transform (transform_of p)) (Err Numerical)
 
-unfoldable pub checked_pose : Transform → Restored
-checked_pose a = if_then (finite_transform a) (valid_pose (pose_of a)) (restored.Bad Numerical)
+unfoldable pub checked_pose : Transform → Result Pose Failure
+checked_pose a = if_then (finite_transform a) (valid_pose (pose_of a)) (Err Numerical)
 
 -- ---- what to do with the transform or the pose, and what with the reason where there is none
 
-unfoldable pub converting : {A : Type 0} → Converted → (Transform → A) → (Failure → A) → A
-converting (converted.Into a) next failed = next a
-converting (converted.Bad why) next failed = failed why
+unfoldable pub converting : {A : Type 0} → Result Transform Failure → (Transform → A) → (Failure → A) → A
+converting (Ok a) next failed = next a
+converting (Err why) next failed = failed why
 
-unfoldable pub restoring : {A : Type 0} → Restored → (Pose → A) → (Failure → A) → A
-restoring (restored.Into p) next failed = next p
-restoring (restored.Bad why) next failed = failed why
+unfoldable pub restoring : {A : Type 0} → Result Pose Failure → (Pose → A) → (Failure → A) → A
+restoring (Ok p) next failed = next p
+restoring (Err why) next failed = failed why

@@ -1,4 +1,5 @@
 -- A graph with more edges than a run takes is refused by rows 1 to 3, whatever its edges: so the edges past the first 1,025 need not be built. Assumes nothing.
+use Rattle.std.specs.Prelude.{Err, Ok}
 use mathlib.Core.Path.{◌≡◌, refl, sym, ap, ◌∙◌}
 use mathlib.Core.Bool.{Bool, true, false, not, ◌||◌, or-true}
 use mathlib.Core.List.{List, [], ◌∷◌, ◌++◌}
@@ -11,10 +12,8 @@ use lib.Seq.{take_at}
 use lib.Ieee.{Float}
 use borrow.Author.Tests.{lt-ltb, eq-eqb, eqb-true, ltb-true, ltb-false, not-false}
 use Rattle.numbers.specs.Notation.{num}
-use Rattle.numbers.specs.Refusals.{refusal, row, Row, verdict}
+use Rattle.numbers.specs.Refusals.{refusal, row, Row, verdict, Verdict}
 use Rattle.numbers.specs.declared.Refusal.{Refusal}
-use Rattle.numbers.specs.declared.Verdict.{Verdict}
-use Rattle.numbers.specs.declared.Verdict.TheVariants as verdict
 use Rattle.numbers.proofs.Tests.{neither_second}
 use Rattle.numbers.proofs.Reading.{ask_fine, row_at}
 use Rattle.numbers.proofs.Speaking.{row_speaks}
@@ -29,7 +28,6 @@ use Rattle.scans.specs.Scans.{Scan, edge_count, ends_to, edges_to, graph_to, bui
 use Rattle.scans.specs.ScanRows.{unfit_scan, scan_rows}
 use Rattle.scans.proofs.Built.{ends_long, edges_long}
 use Rattle.pose_graph.specs.Closing.{closed_run}
-use Rattle.pose_graph.specs.declared.Closed.TheVariants as closed
 
 -- ---- rows 1 to 3, the third of which has its fault
 
@@ -38,7 +36,7 @@ spoken true unfit = refusal 1 0
 spoken false true = refusal 2 0
 spoken false false = refusal 3 0
 
-rows_large : (gravity unfit : Bool) (after : List Row) → verdict (row 1 gravity ∷ row 2 unfit ∷ row 3 true ∷ after) ≡ verdict.Refused (spoken gravity unfit)
+rows_large : (gravity unfit : Bool) (after : List Row) → verdict (row 1 gravity ∷ row 2 unfit ∷ row 3 true ∷ after) ≡ Err (spoken gravity unfit)
 rows_large true unfit after = row_speaks [] (row 1 true) (row 2 unfit ∷ row 3 true ∷ after) (refusal 1 0) refl refl
 rows_large false true after = row_speaks (row 1 false ∷ []) (row 2 true) (row 3 true ∷ after) (refusal 2 0) refl refl
 rows_large false false after = row_speaks (row 1 false ∷ row 2 false ∷ []) (row 3 true) after (refusal 3 0) refl refl
@@ -69,7 +67,7 @@ module _ (m : Manifold) (set : Settings) (room : Room) (s : Scan) (work32 work64
     abbrev said : Refusal
     said = spoken (bad_gravity m) (unfit_poses (length s.poses) room.out)
 
-    turned : verdict (rows i) ≡ verdict.Refused said
+    turned : verdict (rows i) ≡ Err said
     turned =
         let shape : unfit (length s.poses) (length (ends_to s n)) (length (edges_to s n)) room.out ≡ unfit_poses (length s.poses) room.out
         = rw (ends_long s n, edges_long s n) (unfit_built (length s.poses) n room.out) in
@@ -79,7 +77,7 @@ module _ (m : Manifold) (set : Settings) (room : Room) (s : Scan) (work32 work64
         ∙ rows_large (bad_gravity m) (unfit_poses (length s.poses) room.out) (drop 3 (rows i))
 
     large_closed : closed_run i work32 work64 original out
-        ≡ record { answer = closed.Refused said; work32 = work32; work64 = work64; original = original; out = out }
+        ≡ record { answer = Err said; work32 = work32; work64 = work64; original = original; out = out }
     unfolding closed_run checks
     large_closed = rw (demand_one_before i work32 work64 out said (ap (λ (v : Verdict). checked_by v (counts_of i)) turned))
 
@@ -132,12 +130,12 @@ module _ (s : Scan) (n : ℕ) (e : n ≡ min (edge_count s) 1025) where
       rw (a, same, length-append (edges_to s n) (replicate (8200 - n * 8) (num 0)), edges_long s n) (omega arith)
 
 -- past row 33 the originals' copy is as long as the poses
-pub original_long : (ids loops : List ℕ) (poses loop_poses original : ℕ) → verdict (scan_rows ids poses loops loop_poses original) ≡ verdict.Fine
+pub original_long : (ids loops : List ℕ) (poses loop_poses original : ℕ) → verdict (scan_rows ids poses loops loop_poses original) ≡ Ok tt
     → original ≡ poses
 unfolding unfit_scan
 original_long ids loops poses loop_poses original e =
     let u : unfit_scan (length ids) poses (length loops) loop_poses original ≡ false
-    = ask_fine _ 33 0 (row_at verdict.Fine (scan_rows ids poses loops loop_poses original) 0 e) in
+    = ask_fine _ 33 0 (row_at (Ok tt) (scan_rows ids poses loops loop_poses original) 0 e) in
     eqb-true original poses (not-false (eqb original poses)
     (neither_second (not (eqb loop_poses (6 * length loops))) _
     (neither_second (not (eqb (length loops % 2) 0)) _ (neither_second (not (eqb poses (12 * length ids))) _ (neither_second (ltb (length ids) 2) _ u)))))

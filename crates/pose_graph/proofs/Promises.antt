@@ -1,5 +1,7 @@
 -- What closing a scan's loops promises, for every scan and everything lent: 33 and 34 exactly where document 02 says so, before everything else and changing
 -- nothing; else the run of the built graph; usable exactly if every test holds; no verdict without the last edge's residual. Assumes nothing.
+use Rattle.sparse_pgo.specs.declared.Joined.{Joined}
+use Rattle.std.specs.Prelude.{Err, Ok, Result}
 use mathlib.Core.Path.{◌≡◌, refl, sym, ap, ◌∙◌}
 use mathlib.Core.Bool.{Bool, true, false, ◌||◌}
 use mathlib.Core.List.{List, [], ◌∷◌}
@@ -9,11 +11,9 @@ use lib.Dec.{T, eqb}
 use lib.ListN.{length, drop}
 use lib.Ieee.{Float, binary32, fits}
 use borrow.Author.Tests.{eqb-true}
-use Rattle.numbers.specs.Refusals.{refusal, Row, row, placed, verdict}
+use Rattle.numbers.specs.Refusals.{refusal, Row, row, placed, verdict, Verdict}
 use Rattle.numbers.specs.Walks.{some}
 use Rattle.numbers.specs.declared.Refusal.{Refusal}
-use Rattle.numbers.specs.declared.Verdict.{Verdict}
-use Rattle.numbers.specs.declared.Verdict.TheVariants as verdict
 use Rattle.numbers.proofs.Firsts.{First}
 use Rattle.numbers.proofs.Reading.{ask_fine}
 use Rattle.numbers.proofs.Speaking.{among_rows, row_spoke, row_speaks, none_earlier, first_lowest, lowest_first}
@@ -24,8 +24,6 @@ use Rattle.checks.specs.Table.{rows}
 use Rattle.checks.proofs.Passed.{fit}
 use Rattle.residual.specs.Residuals.{has_residual}
 use Rattle.sparse_pgo.specs.Optimize.{After, optimized}
-use Rattle.sparse_pgo.specs.declared.Answer.{Answer}
-use Rattle.sparse_pgo.specs.declared.Answer.TheVariants as answer
 use Rattle.sparse_pgo.proofs.Demands.{never_refused}
 use Rattle.sparse_pgo.proofs.Costed.{active_by_a, active_by_b, joined_fit, active_residuals}
 use Rattle.printable.specs.Measures.{edge_residual, gravity_kept}
@@ -36,7 +34,6 @@ use Rattle.scans.specs.ScanRows.{unfit_scan, is_absent, loop_faults, scan_rows}
 use Rattle.pose_graph.specs.Closing.{Closing, result_for, room_for, closed_as, closed_run, closed_after, loops_closed}
 use Rattle.pose_graph.specs.declared.PgoConfig.{PgoConfig}
 use Rattle.pose_graph.specs.declared.PgoResult.{PgoResult}
-use Rattle.pose_graph.specs.declared.Closed.TheVariants as closed
 
 -- pose 0 alone is fixed
 only_zero : (y : ℕ) → eqb 0 y ≡ false → names (0 ∷ []) y ≡ false
@@ -62,23 +59,23 @@ module _ (c : PgoConfig) (s : Scan) (work32 work64 original out : List Float) wh
   names_absent k = is_absent (candidate_node s.ids s.loops k) || is_absent (query_node s.ids s.loops k)
 
   abbrev pub unchanged : Refusal → Closing
-  unchanged r = record { answer = closed.Refused r; work32 = work32; work64 = work64; original = original; out = out }
+  unchanged r = record { answer = Err r; work32 = work32; work64 = work64; original = original; out = out }
 
   -- what they say
   abbrev pub said : Verdict
   said = verdict (scan_rows s.ids (length s.poses) s.loops (length s.loop_poses) (length original))
 
-  pub turned_down : (r : Refusal) → said ≡ verdict.Refused r → result ≡ unchanged r
+  pub turned_down : (r : Refusal) → said ≡ Err r → result ≡ unchanged r
   unfolding loops_closed
   turned_down r e = rw e
 
   -- where they say nothing, the run of the built graph decides, whatever its size
-  pub run_if_fine : said ≡ verdict.Fine → result ≡ closed_run built work32 work64 original out
+  pub run_if_fine : said ≡ Ok tt → result ≡ closed_run built work32 work64 original out
   unfolding loops_closed
   run_if_fine e = rw e
 
   -- they say nothing of a scan that is not unfit and whose loops name no absent keyframe
-  pub fine_if_fit : is_unfit ≡ false → ((k : ℕ) → k < length s.loops / 2 → names_absent k ≡ false) → said ≡ verdict.Fine
+  pub fine_if_fit : is_unfit ≡ false → ((k : ℕ) → k < length s.loops / 2 → names_absent k ≡ false) → said ≡ Ok tt
   fine_if_fit h f = rw (h, none_earlier 34 names_absent (length s.loops / 2) f)
 
   pub run_of_built : is_unfit ≡ false → ((k : ℕ) → k < length s.loops / 2 → names_absent k ≡ false)
@@ -86,31 +83,31 @@ module _ (c : PgoConfig) (s : Scan) (work32 work64 original out : List Float) wh
   run_of_built h f = run_if_fine (fine_if_fit h f)
 
   -- a run that is refused: every lent number is as the run leaves it, the originals' copy as found
-  pub refused_so : (r : Refusal) → said ≡ verdict.Fine → run.answer ≡ answer.Refused r
-      → result ≡ record { answer = closed.Refused r; work32 = run.work32; work64 = run.work64; original = original; out = run.out }
+  pub refused_so : (r : Refusal) → said ≡ Ok tt → run.answer ≡ Err r
+      → result ≡ record { answer = Err r; work32 = run.work32; work64 = run.work64; original = original; out = run.out }
   unfolding closed_run
   refused_so r e h = run_if_fine e ∙ ap (closed_as built original run) h
 
   -- ---- the answer, back to the run's
 
-  as_refused : (a : Answer) (r : Refusal) → (closed_as built original run a).answer ≡ closed.Refused r → a ≡ answer.Refused r
-  as_refused (answer.Refused q) r e = let same : q ≡ r = cc in ap answer.Refused same
-  as_refused (answer.Joined j) r e = let z : ◌≡◌ {A = ℕ} 0 1 = cc in absurd (omega arith)
+  as_refused : (a : Result Joined Refusal) (r : Refusal) → (closed_as built original run a).answer ≡ Err r → a ≡ Err r
+  as_refused (Err q) r e = let same : q ≡ r = cc in ap Err same
+  as_refused (Ok j) r e = let z : ◌≡◌ {A = ℕ} 0 1 = cc in absurd (omega arith)
 
-  spoke : (r : Refusal) → 22 < r.number → among_rows r.number (drop 1 (rows built)) ≡ false → result.answer ≡ closed.Refused r → said ≡ verdict.Refused r
+  spoke : (r : Refusal) → 22 < r.number → among_rows r.number (drop 1 (rows built)) ≡ false → result.answer ≡ Err r → said ≡ Err r
   unfolding loops_closed closed_run
   spoke r above other = go said refl
     where
-      go : (v : Verdict) → said ≡ v → (closed_after c s work32 work64 original out v).answer ≡ closed.Refused r → said ≡ verdict.Refused r
-      go (verdict.Refused q) h e = let same : q ≡ r = cc in h ∙ ap verdict.Refused same
-      go verdict.Fine h e = absurd (never_refused built work32 work64 out r above other (as_refused run.answer r e))
+      go : (v : Verdict) → said ≡ v → (closed_after c s work32 work64 original out v).answer ≡ Err r → said ≡ Err r
+      go (Err q) h e = let same : q ≡ r = cc in h ∙ ap Err same
+      go (Ok _) h e = absurd (never_refused built work32 work64 out r above other (as_refused run.answer r e))
 
   abbrev loop_row : Row
   loop_row = placed (length s.loops / 2) (loop_faults s.ids s.loops)
 
   -- ---- 33, and that at 0, exactly where the scan is unfit
 
-  pub refused_33 : ((p : ℕ) → result.answer ≡ closed.Refused (refusal 33 p) → (p ≡ 0) × (is_unfit ≡ true)) × (is_unfit ≡ true → result ≡ unchanged (refusal 33 0))
+  pub refused_33 : ((p : ℕ) → result.answer ≡ Err (refusal 33 p) → (p ≡ 0) × (is_unfit ≡ true)) × (is_unfit ≡ true → result ≡ unchanged (refusal 33 0))
   refused_33 = (
     λ p e.
         let first = lowest_first 33 (λ _. is_unfit) 1 p
@@ -128,7 +125,7 @@ module _ (c : PgoConfig) (s : Scan) (work32 work64 original out : List Float) wh
     pub fits_lengths : is_unfit ≡ false
     pub first_loop : First names_absent (length s.loops / 2) k
 
-  pub refused_34 : (k : ℕ) → (result.answer ≡ closed.Refused (refusal 34 k) → NamesAbsent k) × (NamesAbsent k → result ≡ unchanged (refusal 34 k))
+  pub refused_34 : (k : ℕ) → (result.answer ≡ Err (refusal 34 k) → NamesAbsent k) × (NamesAbsent k → result ≡ unchanged (refusal 34 k))
   refused_34 k = (
     λ e.
         let both = row_spoke (row 33 is_unfit ∷ []) loop_row [] (refusal 34 k) refl refl (spoke (refusal 34 k) (omega arith) refl e) in
@@ -150,28 +147,28 @@ module _ (c : PgoConfig) (s : Scan) (work32 work64 original out : List Float) wh
   -- ---- a scan that ran: the run's own answer, and what was measured at its poses
 
   pub record RunSo (x : PgoResult) : Type 0 where
-    pub joined : run.answer ≡ answer.Joined x.run
+    pub joined : run.answer ≡ Ok x.run
     pub measured : x ≡ result_for c.manifold (graph_of built) s.poses run.out x.run
     pub originals : result.original ≡ s.poses
     pub new : result.out ≡ run.out
     pub single : result.work32 ≡ run.work32
     pub double : result.work64 ≡ run.work64
 
-  pub ran_so : (x : PgoResult) → result.answer ≡ closed.Ran x → RunSo x
+  pub ran_so : (x : PgoResult) → result.answer ≡ Ok x → RunSo x
   unfolding loops_closed closed_run result_for
   ran_so x = go said refl
     where
-      at : (a : Answer) → run.answer ≡ a → (closed_as built original run a).answer ≡ closed.Ran x
-          → (a ≡ answer.Joined x.run) × (x ≡ result_for c.manifold (graph_of built) s.poses run.out x.run)
-      at (answer.Refused r) h e = let z : ◌≡◌ {A = ℕ} 0 1 = cc in absurd (omega arith)
-      at (answer.Joined j) h e =
+      at : (a : Result Joined Refusal) → run.answer ≡ a → (closed_as built original run a).answer ≡ Ok x
+          → (a ≡ Ok x.run) × (x ≡ result_for c.manifold (graph_of built) s.poses run.out x.run)
+      at (Err r) h e = let z : ◌≡◌ {A = ℕ} 0 1 = cc in absurd (omega arith)
+      at (Ok j) h e =
           let same : result_for c.manifold (graph_of built) s.poses run.out j ≡ x = cc in
           let ran : j ≡ x.run = ap (λ (y : PgoResult). y.run) same in
-          (ap answer.Joined ran, sym same ∙ ap (result_for c.manifold (graph_of built) s.poses run.out) ran)
+          (ap Ok ran, sym same ∙ ap (result_for c.manifold (graph_of built) s.poses run.out) ran)
 
-      go : (v : Verdict) → said ≡ v → (closed_after c s work32 work64 original out v).answer ≡ closed.Ran x → RunSo x
-      go (verdict.Refused r) h e = let z : ◌≡◌ {A = ℕ} 0 1 = cc in absurd (omega arith)
-      go verdict.Fine h e =
+      go : (v : Verdict) → said ≡ v → (closed_after c s work32 work64 original out v).answer ≡ Ok x → RunSo x
+      go (Err r) h e = let z : ◌≡◌ {A = ℕ} 0 1 = cc in absurd (omega arith)
+      go (Ok _) h e =
           let both = at run.answer refl e in
           record {
             joined = both.0;
@@ -182,7 +179,7 @@ module _ (c : PgoConfig) (s : Scan) (work32 work64 original out : List Float) wh
             double = rw (h, both.0);
           }
 
-  module _ (x : PgoResult) (e : result.answer ≡ closed.Ran x) where
+  module _ (x : PgoResult) (e : result.answer ≡ Ok x) where
     -- ---- usable exactly if every test holds; so the run converged and the cost is strictly lower
 
     abbrev pub kept : Bool

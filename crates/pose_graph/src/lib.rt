@@ -8,10 +8,10 @@ ghost use Rattle.scans.specs.Scans.{scan};
 ghost use Rattle.pose_graph.specs.Closing.{result_for, room_for, closed_run, loops_closed};
 
 use graph::Manifold;
-use numbers::{Refusal, Verdict};
+use numbers::Refusal;
 use printable::Measures;
 use rows::Settings;
-use sparse_pgo::{Answer, Joined};
+use sparse_pgo::Joined;
 
 // The weight of loop edges, the run's settings, and gravity or none.
 #[derive(Clone, Copy)]
@@ -27,12 +27,6 @@ pub struct PgoResult {
     pub run: Joined,
     pub measures: Measures,
     pub usable: bool,
-}
-
-#[derive(Clone, Copy)]
-pub enum Closed {
-    Ran(PgoResult),
-    Refused(Refusal),
 }
 
 // ---- the run, and what is said of it
@@ -67,7 +61,7 @@ fn run_and_judge(
     work64: &mut [f64],
     original: &mut [f64],
     out: &mut [f64],
-) -> Closed
+) -> Result<PgoResult, Refusal>
     requires { length original.old ≡ length poses.now }
     ensures { record { answer = result; work32 = work32.new; work64 = work64.new; original = original.new; out = out.new }
         ≡ closed_run (lent config.manifold poses.now ends.now edges.now (0 ∷ []) config.settings
@@ -75,7 +69,7 @@ fn run_and_judge(
         work32.old work64.old original.old out.old }
 {
     let manifold = config.manifold;
-    let answer = sparse_pgo::sparse_pose_graph_optimize(
+    let run = sparse_pgo::sparse_pose_graph_optimize(
         manifold,
         poses,
         ends,
@@ -85,14 +79,9 @@ fn run_and_judge(
         work32,
         work64,
         out,
-    );
-    match answer {
-        Answer::Refused(r) => Closed::Refused(r),
-        Answer::Joined(run) => {
-            slices::copy64(poses, original);
-            Closed::Ran(result_of(manifold, poses, ends, edges, out, run))
-        }
-    }
+    )?;
+    slices::copy(poses, original);
+    Ok(result_of(manifold, poses, ends, edges, out, run))
 }
 
 // Optimizes a scan: the answer, the new poses in `out` and the given ones in `original`.
@@ -106,15 +95,12 @@ pub fn optimize_pose_graph(
     work64: &mut [f64],
     original: &mut [f64],
     out: &mut [f64],
-) -> Closed
+) -> Result<PgoResult, Refusal>
     ensures { record { answer = result; work32 = work32.new; work64 = work64.new; original = original.new; out = out.new }
         ≡ loops_closed config (scan ids.now poses.now loops.now loop_poses.now config.loop_edge_weight)
         work32.old work64.old original.old out.old }
 {
-    let v = scans::validate_scan(ids, poses.len(), loops, loop_poses.len(), original.len());
-    if let Verdict::Refused(r) = v {
-        return Closed::Refused(r);
-    }
+    scans::validate_scan(ids, poses.len(), loops, loop_poses.len(), original.len())?;
     let n = scans::edges_built(ids.len(), loops.len());
     let ends = scans::built_ends(ids, loops, n);
     let edges = scans::built_edges(ids.len(), poses, loop_poses, config.loop_edge_weight, n);

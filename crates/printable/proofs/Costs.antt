@@ -1,5 +1,7 @@
 -- A residual's six numbers are finite f32s; so half of the sum of the squares of all of them is finite, of up to 2 ^ 32 edges, and so is the length of one.
 -- Assumes nothing.
+use Rattle.numbers.specs.declared.Failure.{Failure}
+use Rattle.std.specs.Prelude.{Err, Ok, Result}
 use mathlib.Core.Path.{◌≡◌, refl, subst}
 use mathlib.Core.Bool.{Bool, true, false, ◌&&◌}
 use Prim.Native.Nat.{ℕ, zero, suc, ◌+◌, ◌*◌, ◌^◌, ◌≤◌, ◌<◌}
@@ -17,17 +19,12 @@ use Rattle.numbers.proofs.Tests.{and_first, and_second}
 use Rattle.roots.proofs.Bounded.{AtMost, at_most_more, add_at_most, zero_at_most, sum_at_most, square, half_finite, norm_finite}
 use Rattle.exp_log.specs.ExpLog.{log_wide}
 use Rattle.rotations.specs.declared.Pose.{Pose}
-use Rattle.rotations.specs.declared.Transform.{Transform}
-use Rattle.exp_log.specs.declared.Twist.{Twist}
-use Rattle.exp_log.specs.declared.WideTwist.{WideTwist}
+use Rattle.rotations.specs.Formats.{Transform}
+use Rattle.exp_log.specs.Formats.{Twist, WideTwist}
 use Rattle.pose_conversion.specs.Conversions.{finite3, valid_transform, checked_transform, converting}
-use Rattle.pose_conversion.specs.declared.Converted.{Converted}
-use Rattle.pose_conversion.specs.declared.Converted.TheVariants as converted
 use Rattle.graph.specs.Graph.{Graph}
 use Rattle.graph.specs.declared.Edge.{Edge}
 use Rattle.residual.specs.Residuals.{error_of, weighted_vec, weighted, finite_twist, six_if_finite, residual_of, six_of}
-use Rattle.residual.specs.declared.Residual.{Residual}
-use Rattle.residual.specs.declared.Residual.TheVariants.{Six, Failed}
 use Rattle.printable.specs.Measures.{edge_residual, squares_of, with_squares, squares_up_to, pose_graph_cost}
 use Rattle.printable.proofs.Measuring.{squares_none}
 
@@ -38,9 +35,9 @@ pub record SixFinite (d : Twist) : Type 0 where
   pub all_fit : (i : ℕ) → i < 6 → T (fits binary32 (get_or (six_of d) i nan))
 
 -- where there is a residual
-abbrev pub Sound : Residual → Type 0
-Sound (Six d) = SixFinite d
-Sound (Failed why) = Unit {0}
+abbrev pub Sound : Result Twist Failure → Type 0
+Sound (Ok d) = SixFinite d
+Sound (Err why) = Unit {0}
 
 three : (x y z : Float) → finite3 x y z ≡ true → (finite x ≡ true) × (finite y ≡ true) × (finite z ≡ true)
 three x y z h =
@@ -80,16 +77,16 @@ six_sound : (w : Float) (d : WideTwist) → Sound (six_if_finite (weighted w d))
 unfolding six_if_finite if_then
 six_sound w d = go (finite_twist (weighted w d)) refl
   where
-    go : (b : Bool) → finite_twist (weighted w d) ≡ b → Sound (if_then b (Six (weighted w d)) (Failed Numerical))
+    go : (b : Bool) → finite_twist (weighted w d) ≡ b → Sound (if_then b (Ok (weighted w d)) (Err Numerical))
     go true e = record { all_finite = six_finite (weighted w d) e; all_fit = six_fits w d }
     go false e = tt
 
-converted_sound : (x : Converted) (next : Transform → Residual) → ((a : Transform) → Sound (next a)) → Sound (converting x next Failed)
+converted_sound : (x : Result Transform Failure) (next : Transform → Result Twist Failure) → ((a : Transform) → Sound (next a)) → Sound (converting x next Err)
 unfolding converting
-converted_sound (converted.Into a) next h = h a
-converted_sound (converted.Bad why) next h = tt
+converted_sound (Ok a) next h = h a
+converted_sound (Err why) next h = tt
 
-tested_sound : (t : Bool) (r : Residual) → Sound r → Sound (if_then t r (Failed Numerical))
+tested_sound : (t : Bool) (r : Result Twist Failure) → Sound r → Sound (if_then t r (Err Numerical))
 unfolding if_then
 tested_sound true r h = h
 tested_sound false r h = tt
@@ -122,10 +119,10 @@ room q h = lt_of_le_of_lt (mul-le-mul_right (2 ^ 256) (le_of_lt h)) (lit< tt)
 six_more : (q u : ℕ) → q * u + 6 * u ≤ (q + 6) * u
 six_more q u = omega arith
 
-with_small : (r : Residual) (q : ℕ) (s : Float) → Sound r → q + 6 < 2 ^ 53 → AtMost (q * 2 ^ 256) s → AtMost ((q + 6) * 2 ^ 256) (with_squares r s)
-with_small (Six d) q s f Q h =
+with_small : (r : Result Twist Failure) (q : ℕ) (s : Float) → Sound r → q + 6 < 2 ^ 53 → AtMost (q * 2 ^ 256) s → AtMost ((q + 6) * 2 ^ 256) (with_squares r s)
+with_small (Ok d) q s f Q h =
     add_at_most binary64 (q * 2 ^ 256) (6 * 2 ^ 256) (q + 6) 256 s (squares_of d) Q (room (q + 6) Q) (six_more q (2 ^ 256)) h (squares_small d f)
-with_small (Failed why) q s f Q h = at_most_more ((q + 6) * 2 ^ 256) (mul-le-mul_right (2 ^ 256) (le-add_right q 6)) h
+with_small (Err why) q s f Q h = at_most_more ((q + 6) * 2 ^ 256) (mul-le-mul_right (2 ^ 256) (le-add_right q 6)) h
 
 -- so many numbers
 below_53 : (k : ℕ) → k ≤ 2 ^ 32 → k * 6 < 2 ^ 53

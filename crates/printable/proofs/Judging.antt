@@ -1,5 +1,8 @@
 -- What `usable` and `printing` mean, of any edges, poses and numbers: usable holds exactly if every test does; `printing` says yes exactly if it is usable;
 -- what it says of gravity is said of every pose; the measures are finite exactly where the last edge has a residual. Assumes nothing.
+use Rattle.numbers.specs.declared.Failure.{Failure}
+use Rattle.exp_log.specs.Formats.{Twist}
+use Rattle.std.specs.Prelude.{Err, Ok, Result}
 use mathlib.Core.Path.{◌≡◌, refl, sym, ap, subst, ◌∙◌}
 use mathlib.Core.Bool.{Bool, true, false, not, ◌&&◌, true≢false}
 use Prim.Native.Nat.{ℕ, zero, suc, ◌-◌, ◌^◌, ◌≤◌}
@@ -10,15 +13,13 @@ use lib.Ieee.Scale.{finite}
 use Rattle.numbers.specs.Notation.{ratio, if_then}
 use Rattle.numbers.specs.Walks.{every}
 use Rattle.numbers.proofs.Order.{lt_through, lt_either}
-use Rattle.rotations.specs.declared.Vec3.{Vec3}
+use Rattle.rotations.specs.Formats.{Vec3}
 use Rattle.rotations.specs.declared.Pose.{Pose}
 use Rattle.graph.specs.Graph.{Graph}
 use Rattle.graph.specs.declared.Edge.{Edge}
 use Rattle.graph.specs.declared.Manifold.{Manifold}
 use Rattle.graph.specs.declared.Manifold.TheVariants.{Se3, Gravity}
 use Rattle.residual.specs.Residuals.{has_residual}
-use Rattle.residual.specs.declared.Residual.{Residual}
-use Rattle.residual.specs.declared.Residual.TheVariants.{Six, Failed}
 use Rattle.printable.specs.declared.Measures.{Measures}
 use Rattle.printable.specs.declared.Printable.{Printable}
 use Rattle.printable.specs.declared.Printable.TheVariants as printable
@@ -192,9 +193,9 @@ printing_usable converged iterations limit m n g before after =
 
 -- ---- the measures
 
-last_finite : (r : Residual) → Sound r → finite (residual_norm r) ≡ has_residual r
-last_finite (Six d) s = length_finite d s
-last_finite (Failed why) s = refl
+last_finite : (r : Result Twist Failure) → Sound r → finite (residual_norm r) ≡ has_residual r
+last_finite (Ok d) s = length_finite d s
+last_finite (Err why) s = refl
 
 pub finite_measures_lem : {P : Type 0} (g : Graph P Edge) (before after : ℕ → Pose) → g.edges ≤ 2 ^ 32
     → finite_measures (measures_of g before after) ≡ (has_residual (edge_residual g before (g.edges - 1)) && has_residual (edge_residual g after (g.edges - 1)))

@@ -4,7 +4,7 @@ use Prim.Native.Nat.{ℕ, ◌+◌}
 use native.Mathlib.Numerals.{add-one}
 use lib.Ieee.{Float, lt, of_bits, binary64}
 use Rattle.numbers.specs.Notation.{ratio, if_then}
-use Rattle.rotations.specs.declared.Vec3.{Vec3}
+use Rattle.rotations.specs.Formats.{Vec3}
 use Rattle.rotations.specs.declared.Pose.{Pose}
 use Rattle.graph.specs.Graph.{Graph}
 use Rattle.graph.specs.declared.Edge.{Edge}

@@ -1,28 +1,27 @@
 -- What is measured of a joined scan, in f64: the cost of all its edges, the residual of its last edge, and how far gravity tipped (pose_graph.rs; document 02,
 -- Wish 2). Of any edges and any poses. Definitions only.
-use Rattle.std.specs.Prelude.{ℕ, zero, suc, ◌-◌, Bool, true, not, get_or, Float}
+use Rattle.numbers.specs.declared.Failure.{Failure}
+use Rattle.std.specs.Prelude.{ℕ, zero, suc, ◌-◌, Bool, true, not, get_or, Float, Err, Ok, Result}
 use Rattle.std.specs.Float.{binary64, nan}
 use Rattle.std.specs.Float.Ieee.{lt}
 use Rattle.numbers.specs.Notation.{◌⊕◌, ◌⊗◌, num, ratio, if_then}
 use Rattle.roots.specs.Roots.{root64}
 use Rattle.numbers.specs.Walks.{every, sum_of}
 use Rattle.rotations.specs.Rotation.{dot, turned, unit_vec}
-use Rattle.rotations.specs.declared.Vec3.{Vec3}
+use Rattle.rotations.specs.Formats.{Vec3}
 use Rattle.rotations.specs.declared.Pose.{Pose}
-use Rattle.exp_log.specs.declared.Twist.{Twist}
+use Rattle.exp_log.specs.Formats.{Twist}
 use Rattle.graph.specs.Graph.{Graph}
 use Rattle.graph.specs.declared.Edge.{Edge}
 use Rattle.graph.specs.declared.Manifold.{Manifold}
 use Rattle.graph.specs.declared.Manifold.TheVariants.{Se3, Gravity}
 use Rattle.residual.specs.Residuals.{residual_of, six_of}
-use Rattle.residual.specs.declared.Residual.{Residual}
-use Rattle.residual.specs.declared.Residual.TheVariants.{Six, Failed}
 use Rattle.printable.specs.declared.Measures.{Measures}
 
 -- ---- an edge
 
 -- the residual of edge k at the poses
-abbrev pub edge_residual : {P : Type 0} → Graph P Edge → (ℕ → Pose) → ℕ → Residual
+abbrev pub edge_residual : {P : Type 0} → Graph P Edge → (ℕ → Pose) → ℕ → Result Twist Failure
 edge_residual g pose k = residual_of (pose (g.a k)) (pose (g.b k)) (g.measured k)
 
 -- the sum of its six squares, in order, from +0
@@ -31,9 +30,9 @@ squares_of d = sum_of binary64 (λ j. get_or (six_of d) j nan ⊗ get_or (six_of
 
 -- ---- the cost: half the sum over all edges that have a residual, in order, from +0
 
-abbrev pub with_squares : Residual → Float → Float
-with_squares (Six d) sum = sum ⊕ squares_of d
-with_squares (Failed why) sum = sum
+abbrev pub with_squares : Result Twist Failure → Float → Float
+with_squares (Ok d) sum = sum ⊕ squares_of d
+with_squares (Err why) sum = sum
 
 unfoldable pub squares_up_to : {P : Type 0} → Graph P Edge → (ℕ → Pose) → ℕ → Float
 squares_up_to g pose zero = num 0
@@ -44,9 +43,9 @@ pose_graph_cost g pose = ratio 1 2 ⊗ squares_up_to g pose g.edges
 
 -- ---- the last edge: the length of its residual, a NaN where it has none
 
-abbrev pub residual_norm : Residual → Float
-residual_norm (Six d) = root64 (squares_of d)
-residual_norm (Failed why) = nan
+abbrev pub residual_norm : Result Twist Failure → Float
+residual_norm (Ok d) = root64 (squares_of d)
+residual_norm (Err why) = nan
 
 unfoldable pub last_residual : {P : Type 0} → Graph P Edge → (ℕ → Pose) → Float
 last_residual g pose = residual_norm (edge_residual g pose (g.edges - 1))

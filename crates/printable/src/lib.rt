@@ -12,7 +12,7 @@ ghost use Rattle.printable.specs.Printing.{usable, printing, finite_measures};
 
 use exp_log::Twist;
 use graph::Manifold;
-use residual::Residual;
+use numbers::Failure;
 use rotations::{Pose, Vec3};
 
 const LEAST_COSINE: f64 = 0.999999995;
@@ -27,6 +27,7 @@ pub struct Measures {
 }
 
 // Whether it may be printed; else the first test that fails, with what it compared: iterations and limit, the smallest cosine, before and after.
+// A no is an answer that is told like the yes, and nobody goes on without it: so this is no Result.
 #[derive(Clone, Copy)]
 pub enum Printable {
     Yes,
@@ -39,7 +40,12 @@ pub enum Printable {
 
 // ---- edges
 
-fn weighted_edge_residual(poses: &[f64], ends: &[u32], edges: &[f32], k: usize) -> Residual
+fn weighted_edge_residual(
+    poses: &[f64],
+    ends: &[u32],
+    edges: &[f32],
+    k: usize,
+) -> Result<Twist<f32>, Failure>
     requires { k < 2 ^ 62 }
     ensures { result ≡ edge_residual (lent_graph [] ends.now edges.now []) (pose_at poses.now) k }
 {
@@ -53,26 +59,24 @@ fn weighted_edge_residual(poses: &[f64], ends: &[u32], edges: &[f32], k: usize) 
 }
 
 // The sum of six squares.
-fn residual_squared(d: Twist) -> f64
+fn residual_squared(d: Twist<f32>) -> f64
     ensures { result ≡ squares_of d }
 {
     let six = residual::six_of(d);
     let mut sum = 0.0f64;
-    let mut j = 0usize;
-    while j < 6 {
-        let v = numbers::widen(six[j]);
+    for x in &six {
+        let v = f64::from(*x);
         sum = sum + v * v;
-        j += 1;
     }
     sum
 }
 
-fn add_residual(r: Residual, sum: f64) -> f64
+fn add_residual(r: Result<Twist<f32>, Failure>, sum: f64) -> f64
     ensures { result ≡ with_squares r sum }
 {
     match r {
-        Residual::Six(d) => sum + residual_squared(d),
-        Residual::Failed(_) => sum,
+        Ok(d) => sum + residual_squared(d),
+        Err(_) => sum,
     }
 }
 
@@ -80,22 +84,19 @@ fn add_residual(r: Residual, sum: f64) -> f64
 pub fn pose_graph_cost(poses: &[f64], ends: &[u32], edges: &[f32]) -> f64
     ensures { result ≡ pose_graph_cost (lent_graph [] ends.now edges.now []) (pose_at poses.now) }
 {
-    let n = ends.len() / 2;
     let mut sum = 0.0f64;
-    let mut k = 0usize;
-    while k < n {
+    for k in 0..ends.len() / 2 {
         sum = add_residual(weighted_edge_residual(poses, ends, edges, k), sum);
-        k += 1;
     }
     0.5 * sum
 }
 
-fn residual_norm(r: Residual) -> f64
+fn residual_norm(r: Result<Twist<f32>, Failure>) -> f64
     ensures { result ≡ residual_norm r }
 {
     match r {
-        Residual::Six(d) => roots::sqrt64(residual_squared(d)),
-        Residual::Failed(_) => 0.0f64 / 0.0f64,
+        Ok(d) => roots::sqrt64(residual_squared(d)),
+        Err(_) => f64::NAN,
     }
 }
 
@@ -103,7 +104,7 @@ fn residual_norm(r: Residual) -> f64
 pub fn last_residual_norm(poses: &[f64], ends: &[u32], edges: &[f32]) -> f64
     ensures { result ≡ last_residual (lent_graph [] ends.now edges.now []) (pose_at poses.now) }
 {
-    let k = numbers::index_before(ends.len() / 2);
+    let k = (ends.len() / 2).saturating_sub(1);
     residual_norm(weighted_edge_residual(poses, ends, edges, k))
 }
 
@@ -121,7 +122,7 @@ pub fn measures_at(before: &[f64], after: &[f64], ends: &[u32], edges: &[f32]) -
 
 // ---- gravity
 
-fn gravity_cosine(g: Vec3, before: Pose, after: Pose) -> f64
+fn gravity_cosine(g: Vec3<f64>, before: Pose, after: Pose) -> f64
     ensures { result ≡ gravity_cosine g before after }
 {
     let a = rotations::unit_vec(rotations::turn_vec(before.rotation, g));
@@ -136,16 +137,13 @@ fn smaller(cosine: f64, least: f64) -> f64
 }
 
 // Gravity of unit length; as many poses as there are before.
-fn smallest_cosine(g: Vec3, before: &[f64], after: &[f64]) -> f64
+fn smallest_cosine(g: Vec3<f64>, before: &[f64], after: &[f64]) -> f64
     ensures { result ≡ smallest_cosine g (length before.now / 12) (pose_at before.now) (pose_at after.now) }
 {
-    let n = before.len() / 12;
     let mut least = 1.0f64;
-    let mut x = 0usize;
-    while x < n {
+    for x in 0..before.len() / 12 {
         let cosine = gravity_cosine(g, graph::pose_at(before, x), graph::pose_at(after, x));
         least = smaller(cosine, least);
-        x += 1;
     }
     least
 }
@@ -171,10 +169,9 @@ pub fn gravity_preserved(m: Manifold, before: &[f64], after: &[f64]) -> bool
 fn metrics_finite(m: Measures) -> bool
     ensures { result ≡ finite_measures m }
 {
-    numbers::is_finite64(m.initial_cost)
-        & (numbers::is_finite64(m.final_cost)
-            & (numbers::is_finite64(m.new_loop_residual_before)
-                & numbers::is_finite64(m.new_loop_residual_after)))
+    m.initial_cost.is_finite()
+        & (m.final_cost.is_finite()
+            & (m.new_loop_residual_before.is_finite() & m.new_loop_residual_after.is_finite()))
 }
 
 pub fn is_usable(converged: bool, preserved: bool, m: Measures) -> bool

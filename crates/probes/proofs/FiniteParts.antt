@@ -10,11 +10,7 @@ use Rattle.rounding.specs.Rounding.{rounded, narrowed}
 use Rattle.numbers.proofs.Tests.{and_first, and_second}
 use Rattle.rotations.specs.Rotation.{matrix_of, wide}
 use Rattle.rotations.specs.FromMatrix.{by_rule, halved_by, quat_of_matrix}
-use Rattle.rotations.specs.declared.Vec3.{Vec3}
-use Rattle.rotations.specs.declared.Mat3.{Mat3}
-use Rattle.rotations.specs.declared.Quat.{Quat}
-use Rattle.rotations.specs.declared.QuatF32.{QuatF32}
-use Rattle.rotations.specs.declared.Mat3F32.{Mat3F32}
+use Rattle.rotations.specs.Formats.{Vec3, Mat3, Quat, QuatF32, Mat3F32}
 use Rattle.pose_conversion.specs.Conversions.{finite3, vec_f32, mat_f32, rebuilt}
 use Rattle.probes.specs.Stances.{finite_matrix, turned_by}
 

@@ -1,4 +1,6 @@
 -- The probes with gravity from what they share: three rotations, and the pose's centre. Assumes nothing.
+use Rattle.rotations.specs.Formats.{Quat, Vec3}
+use Rattle.std.specs.Prelude.{Err, None, Option, Some}
 use mathlib.Core.Path.{◌≡◌, refl, ap, ◌∙◌}
 use mathlib.Core.Bool.{Bool, true, false}
 use mathlib.Core.List.{List}
@@ -12,13 +14,8 @@ use Rattle.numbers.specs.Walks.{every}
 use Rattle.numbers.specs.declared.Failure.TheVariants.{Numerical}
 use Rattle.rotations.specs.Rotation.{vec, plus, minus, times, matrix_of, turned, mat_product, transpose}
 use Rattle.exp_log.specs.ExpLog.{turn_of, turning}
-use Rattle.rotations.specs.declared.Vec3.{Vec3}
 use Rattle.rotations.specs.declared.Pose.{Pose}
-use Rattle.exp_log.specs.declared.Turn.{Turn}
-use Rattle.exp_log.specs.declared.Turn.TheVariants as turn
 use Rattle.pose_conversion.specs.Conversions.{finite_pose, valid_pose, checked_transform, restoring}
-use Rattle.pose_conversion.specs.declared.Converted.TheVariants as converted
-use Rattle.pose_conversion.specs.declared.Restored.TheVariants as restored
 use Rattle.graph.specs.declared.Manifold.TheVariants.{Gravity}
 use Rattle.retraction.specs.Retraction.{centre_of, turned_pose, retract_of, retract_gravity}
 use Rattle.probes.specs.Probes.{eps, nudge, step_size, probe_of, probes_of}
@@ -51,12 +48,12 @@ module _ (c : ℕ) (small : c < 4) (ahead : Bool) where
   abbrev δ : List Float
   δ = nudge c (step_size ahead)
 
-  turned_probe : (p : Pose) (x : Turn)
+  turned_probe : (p : Pose) (x : Option Quat)
       → probe_gravity (minus (turned (transpose p.rotation) p.translation)) (spin_of p.rotation x) c ahead
-      ≡ restoring (turning x (λ q. valid_pose (turned_pose p (centre_of p δ) q)) (restored.Bad Numerical)) checked_transform converted.Bad
+      ≡ restoring (turning x (λ q. valid_pose (turned_pose p (centre_of p δ) q)) (Err Numerical)) checked_transform Err
   unfolding probe_gravity spin_of turning centre_of turned_pose restoring joined
-  turned_probe p turn.TooFar = refl
-  turned_probe p (turn.By q) =
+  turned_probe p None = refl
+  turned_probe p (Some q) =
       rw (← shift_is c small ahead)
       (pose_again (mat_product p.rotation (matrix_of q))
       (minus (turned (mat_product p.rotation (matrix_of q)) (plus (minus (turned (transpose p.rotation) p.translation)) (step_shift c ahead)))))
@@ -66,8 +63,8 @@ module _ (c : ℕ) (small : c < 4) (ahead : Bool) where
         (if_then (ltb c 3) (spin_of p.rotation (turn_of (times (neg (num 0)) g)))
         (if_then ahead (spin_of p.rotation (turn_of (times (neg eps) g))) (spin_of p.rotation (turn_of (times (neg (neg eps)) g)))))
         c ahead
-        ≡ restoring (turning (turn_of (times (neg (number_at δ 3)) g)) (λ q. valid_pose (turned_pose p (centre_of p δ) q)) (restored.Bad Numerical))
-        checked_transform converted.Bad
+        ≡ restoring (turning (turn_of (times (neg (number_at δ 3)) g)) (λ q. valid_pose (turned_pose p (centre_of p δ) q)) (Err Numerical))
+        checked_transform Err
     from_spins =
         ap (λ y. probe_gravity (minus (turned (transpose p.rotation) p.translation)) y c ahead)
         (fourth_is (λ h. spin_of p.rotation (turn_of (times (neg h) g))) c small ahead)

@@ -1,5 +1,7 @@
 -- The probes of Se3 from what they share. A transform made a pose and turned back keeps its translation, and has the quaternion of its rebuilt matrix.
 -- Assumes nothing.
+use Rattle.numbers.specs.declared.Failure.{Failure}
+use Rattle.std.specs.Prelude.{Err, Ok, Result, Some}
 use mathlib.Core.Path.{◌≡◌, refl, sym, ap, ◌∙◌}
 use mathlib.Core.Bool.{Bool, true, false, true≢false}
 use mathlib.Core.List.{List}
@@ -13,16 +15,10 @@ use Rattle.numbers.specs.Walks.{every}
 use Rattle.numbers.specs.declared.Failure.TheVariants.{Numerical}
 use Rattle.rotations.specs.Rotation.{vec, plus, matrix_of, turned, quat_product, wide, finished, rounded_quat, product}
 use Rattle.exp_log.specs.ExpLog.{exp_of, moving}
-use Rattle.rotations.specs.declared.Mat3.{Mat3}
-use Rattle.rotations.specs.declared.Transform.{Transform}
-use Rattle.rotations.specs.declared.Rigid.{Rigid}
+use Rattle.rotations.specs.Formats.{Mat3, Transform, Rigid}
 use Rattle.rotations.specs.declared.Pose.{Pose}
-use Rattle.exp_log.specs.declared.Moved.TheVariants as moved
 use Rattle.pose_conversion.specs.Conversions.{vec_f32, vec_f64, mat_f32, mat_f64, rebuilt, pose_of, finite_pose, finite_transform}
 use Rattle.pose_conversion.specs.Conversions.{valid_pose, checked_transform, checked_pose, converting, restoring}
-use Rattle.pose_conversion.specs.declared.Converted.{Converted}
-use Rattle.pose_conversion.specs.declared.Converted.TheVariants as converted
-use Rattle.pose_conversion.specs.declared.Restored.TheVariants as restored
 use Rattle.graph.specs.declared.Manifold.TheVariants.{Se3}
 use Rattle.retraction.specs.Retraction.{retract_of, retract_se3}
 use Rattle.probes.specs.Probes.{nudge, step_size, probe_of, probes_of}
@@ -61,10 +57,10 @@ tested_twice false x y = refl
 -- the tests of a transform's pose are its own
 checked_once : (a : Transform) → checked_pose a ≡ valid_pose (pose_of a)
 unfolding checked_pose valid_pose finite_pose finite_transform pose_of mat_f64 vec_f64
-checked_once a = tested_twice (finite_transform a) (restored.Into (pose_of a)) (restored.Bad Numerical)
+checked_once a = tested_twice (finite_transform a) (Ok (pose_of a)) (Err Numerical)
 
 settled_again : (r : Rigid)
-    → joined (settled_by (rebuilt (finished r))) (finished r).t ≡ restoring (checked_pose (finished r)) checked_transform converted.Bad
+    → joined (settled_by (rebuilt (finished r))) (finished r).t ≡ restoring (checked_pose (finished r)) checked_transform Err
 unfolding pose_of rebuilt
 settled_again r =
     let b = finished r in
@@ -94,7 +90,7 @@ module _ (a : Transform) (c : ℕ) (ahead : Bool) where
   translation_is = refl
 
   stepped : joined (swung_by (wide a).q (step_quat c ahead)) (vec_f32 (plus (turned (matrix_of (wide a).q) (step_shift c ahead)) (wide a).t))
-      ≡ restoring (checked_pose (product a (step_by c ahead))) checked_transform converted.Bad
+      ≡ restoring (checked_pose (product a (step_by c ahead))) checked_transform Err
   unfolding swung_by
   stepped = rw (product_is, ← rebuilt_is, ← translation_is) (settled_again reached)
 
@@ -119,13 +115,13 @@ module _ (c : ℕ) (small : c < 6) (ahead : Bool) where
   abbrev δ : List Float
   δ = nudge c (step_size ahead)
 
-  module _ (step : exp_of (vec (number_at δ 0) (number_at δ 1) (number_at δ 2)) (vec (number_at δ 3) (number_at δ 4) (number_at δ 5)) ≡ moved.To (step_by c ahead))
+  module _ (step : exp_of (vec (number_at δ 0) (number_at δ 1) (number_at δ 2)) (vec (number_at δ 3) (number_at δ 4) (number_at δ 5)) ≡ Some (step_by c ahead))
       (fin : every (λ j. finite (number_at δ j)) 6 ≡ true) where
-    probe_from : (x : Converted)
-        → probe_by (stance_se3 x) c ahead ≡ restoring (converting x (λ a. checked_pose (product a (step_by c ahead))) restored.Bad) checked_transform converted.Bad
+    probe_from : (x : Result Transform Failure)
+        → probe_by (stance_se3 x) c ahead ≡ restoring (converting x (λ a. checked_pose (product a (step_by c ahead))) Err) checked_transform Err
     unfolding probe_by probe_se3 stance_se3 converting restoring
-    probe_from (converted.Bad why) = refl
-    probe_from (converted.Into a) =
+    probe_from (Err why) = refl
+    probe_from (Ok a) =
         ap (λ s. joined s (vec_f32 (plus (turned (matrix_of (wide a).q) (step_shift c ahead)) (wide a).t)))
         (either (ltb c 3) (λ h. ap (swung_by (wide a).q) (same_shift c small ahead h)))
         ∙ stepped a c ahead

@@ -1,6 +1,7 @@
 -- exp of a probe's step is what `step_quat` and `step_shift` say, and its numbers are finite: each of the twelve steps computed by antt. Assumes nothing.
 use Prim.Native.Nat.{ℕ, zero, suc, ◌<◌}
 use native.Mathlib.Omega.{arith}
+use Rattle.std.specs.Prelude.{None, Option, Some}
 use mathlib.Core.Path.{◌≡◌, refl, ap}
 use mathlib.Core.Bool.{Bool, true, false, not, ◌&&◌}
 use lib.Dec.{T, eqb, eqb→eq}
@@ -14,16 +15,12 @@ use Rattle.numbers.specs.Walks.{every}
 use Rattle.numbers.proofs.Tests.{and_first}
 use Rattle.rotations.specs.Rotation.{vec, dot, cross, plus, times, finished, over}
 use Rattle.exp_log.specs.ExpLog.{series, squared, squarings, sine_series, cosine_series, turn_by, small_bend, bend, bent, turning, turn_of, moved_by, exp_of}
-use Rattle.rotations.specs.declared.QuatF32.{QuatF32}
-use Rattle.rotations.specs.declared.Vec3F32.{Vec3F32}
-use Rattle.rotations.specs.declared.Transform.{Transform}
-use Rattle.exp_log.specs.declared.Moved.{Moved}
-use Rattle.exp_log.specs.declared.Moved.TheVariants as moved
+use Rattle.rotations.specs.Formats.{QuatF32, Vec3F32, Transform}
 use Rattle.probes.specs.Probes.{nudge, step_size}
 use Rattle.probes.specs.Stances.{step_quat, step_shift, step_by}
 
 -- exp of a step along axis c
-abbrev exp_step : ℕ → Bool → Moved
+abbrev exp_step : ℕ → Bool → Option Transform
 exp_step c ahead = let δ = nudge c (step_size ahead) in exp_of (vec (number_at δ 0) (number_at δ 1) (number_at δ 2)) (vec (number_at δ 3) (number_at δ 4) (number_at δ 5))
 
 -- ---- whether a float is another, and a transform: a test, so that antt computes both sides
@@ -75,9 +72,9 @@ four a b = same a.x b.x && (same a.y b.y && (same a.z b.z && same a.w b.w))
 abbrev three : Vec3F32 → Vec3F32 → Bool
 three a b = same a.x b.x && (same a.y b.y && same a.z b.z)
 
-abbrev is : Moved → Transform → Bool
-is (moved.To a) b = four a.q b.q && three a.t b.t
-is moved.TooFar b = false
+abbrev is : Option Transform → Transform → Bool
+is (Some a) b = four a.q b.q && three a.t b.t
+is None b = false
 
 four_eq : (a b : QuatF32) → T (four a b) → a ≡ b
 four_eq a b h =
@@ -97,12 +94,12 @@ three_eq a b h =
     let z = same_eq a.z b.z (and_r (same a.y b.y) _ g) in
     λ i. record { x = x i; y = y i; z = z i }
 
-is_eq : (m : Moved) (b : Transform) → T (is m b) → m ≡ moved.To b
-is_eq (moved.To a) b h =
+is_eq : (m : Option Transform) (b : Transform) → T (is m b) → m ≡ Some b
+is_eq (Some a) b h =
     let q = four_eq a.q b.q (and_l (four a.q b.q) _ h) in
     let t = three_eq a.t b.t (and_r (four a.q b.q) _ h) in
-    λ i. moved.To (record { q = q i; t = t i })
-is_eq moved.TooFar b h = absurd h
+    λ i. Some (record { q = q i; t = t i })
+is_eq None b h = absurd h
 
 -- ---- the twelve steps
 
@@ -125,7 +122,7 @@ unfolding step_quat step_shift ratio ratio32 if_then add sub mul div neg lt roun
 exp_steps true = (tt, tt, tt, tt, tt, tt)
 exp_steps false = (tt, tt, tt, tt, tt, tt)
 
-pub exp_step_lem : (c : ℕ) → c < 6 → (ahead : Bool) → exp_step c ahead ≡ moved.To (step_by c ahead)
+pub exp_step_lem : (c : ℕ) → c < 6 → (ahead : Bool) → exp_step c ahead ≡ Some (step_by c ahead)
 exp_step_lem c l ahead = is_eq _ _ (each_axis (λ c b. T (is (exp_step c b) (step_by c b))) exp_steps c l ahead)
 
 -- ---- a step's numbers are finite: all six, and so the first four

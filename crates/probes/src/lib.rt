@@ -1,16 +1,15 @@
 // The probes of a pose, for its Jacobians: its transforms after a step of 0.001 ahead and behind along each axis. What they share is worked out once.
 #![tactic(auto)]
 
-ghost use Rattle.std.specs.Prelude.{◌≡◌};
+ghost use Rattle.std.specs.Prelude.{◌≡◌, Ok};
 ghost use Rattle.pose_conversion.specs.Conversions.{rebuilt};
 ghost use Rattle.probes.specs.Stances.{step_quat, step_shift, finite_matrix, turned_by, swing_of, settled_by, swung_by, swings_by, swings_at, joined};
 ghost use Rattle.probes.specs.Stances.{probing_of, spin_of, stance_se3, stance_of, probes_se3, probe_gravity, probes_gravity, probes_by};
 
-use exp_log::Turn;
+use exp_log::Both;
 use graph::Manifold;
 use numbers::Failure;
-use pose_conversion::Converted;
-use rotations::{Mat3, Mat3F32, Pose, Quat, QuatF32, Rigid, Transform, Vec3, Vec3F32};
+use rotations::{Mat3, Pose, Quat, Transform, Vec3};
 
 // A pose is moved so far to each side, in its own units along each axis.
 pub const NUM_JACOBIAN_EPS: f32 = 0.001;
@@ -20,68 +19,46 @@ pub const NUM_JACOBIAN_EPS: f32 = 0.001;
 pub enum Probing {
     Se3,
     Gravity {
-        still: Turn,
-        ahead: Turn,
-        behind: Turn,
+        still: Option<Quat<f64>>,
+        ahead: Option<Quat<f64>>,
+        behind: Option<Quat<f64>>,
     },
 }
 
-// The quaternion of a probe, where its rotation could be had.
-#[derive(Clone, Copy)]
-pub enum Swing {
-    By(QuatF32),
-    Lost,
-}
-
-// The quaternions of the two probes along an axis.
-#[derive(Clone, Copy)]
-struct Swings {
-    ahead: Swing,
-    behind: Swing,
-}
-
-// The rotation of a probe with gravity, and its quaternion.
+// The rotation of a probe with gravity, and its quaternion, where that could be had.
 #[derive(Clone, Copy)]
 pub struct Spin {
-    pub rotation: Mat3,
-    pub swing: Swing,
+    pub rotation: Mat3<f64>,
+    pub swing: Option<Quat<f32>>,
 }
 
 // What the probes of a pose share: with Se3 its transform, the matrix of that, and the quaternion of all shifts; with gravity its centre and its three
-// rotations. Or why none can be had.
+// rotations.
 #[derive(Clone, Copy)]
 pub enum Stance {
     Se3 {
-        at: Rigid,
-        matrix: Mat3,
-        shift: Swing,
+        at: Transform<f64>,
+        matrix: Mat3<f64>,
+        shift: Option<Quat<f32>>,
     },
     Gravity {
-        centre: Vec3,
+        centre: Vec3<f64>,
         still: Spin,
         ahead: Spin,
         behind: Spin,
     },
-    Bad(Failure),
-}
-
-// The two probes along an axis.
-#[derive(Clone, Copy)]
-pub struct BothProbes {
-    pub ahead: Converted,
-    pub behind: Converted,
 }
 
 // ---- the steps
 
 // exp of a step along axis c, its quaternion: the same for all shifts.
-fn step_quat(c: usize, ahead: bool) -> Quat
+fn step_quat(c: usize, ahead: bool) -> Quat<f64>
     ensures { result ≡ step_quat c ahead }
 {
     let s = if ahead {
-        numbers::widen(0.0005)
+        f64::from(0.0005f32)
     } else {
-        numbers::widen(-0.0005)
+        f64::from(-0.0005f32)
     };
     Quat {
         x: if c == 3 { s } else { 0.0 },
@@ -90,7 +67,7 @@ fn step_quat(c: usize, ahead: bool) -> Quat
         w: if c < 3 {
             1.0
         } else if c < 6 {
-            numbers::widen(0.9999999)
+            f64::from(0.9999999f32)
         } else {
             1.0
         },
@@ -98,13 +75,13 @@ fn step_quat(c: usize, ahead: bool) -> Quat
 }
 
 // The translation of a step along axis c, and of its exp.
-fn step_shift(c: usize, ahead: bool) -> Vec3
+fn step_shift(c: usize, ahead: bool) -> Vec3<f64>
     ensures { result ≡ step_shift c ahead }
 {
     let s = if ahead {
-        numbers::widen(NUM_JACOBIAN_EPS)
+        f64::from(NUM_JACOBIAN_EPS)
     } else {
-        numbers::widen(-NUM_JACOBIAN_EPS)
+        f64::from(-NUM_JACOBIAN_EPS)
     };
     Vec3 {
         x: if c == 0 { s } else { 0.0 },
@@ -115,7 +92,7 @@ fn step_shift(c: usize, ahead: bool) -> Vec3
 
 // ---- a probe's quaternion and translation
 
-fn finite_matrix(m: Mat3F32) -> bool
+fn finite_matrix(m: Mat3<f32>) -> bool
     ensures { result ≡ finite_matrix m }
 {
     pose_conversion::vec3_f32_is_finite(m.x)
@@ -123,10 +100,10 @@ fn finite_matrix(m: Mat3F32) -> bool
 }
 
 // The matrix of a quaternion: that of a transform that doesn't move.
-fn matrix_again(q: QuatF32) -> Mat3F32
+fn matrix_again(q: Quat<f32>) -> Mat3<f32>
     ensures { result ≡ rebuilt (turned_by q) }
 {
-    let nowhere = Vec3F32 {
+    let nowhere = Vec3 {
         x: 0.0,
         y: 0.0,
         z: 0.0,
@@ -135,18 +112,14 @@ fn matrix_again(q: QuatF32) -> Mat3F32
 }
 
 // The quaternion q, whose matrix m must be finite.
-fn swing_of(q: QuatF32, m: Mat3F32) -> Swing
+fn swing_of(q: Quat<f32>, m: Mat3<f32>) -> Option<Quat<f32>>
     ensures { result ≡ swing_of q m }
 {
-    if finite_matrix(m) {
-        Swing::By(q)
-    } else {
-        Swing::Lost
-    }
+    if finite_matrix(m) { Some(q) } else { None }
 }
 
 // The quaternion of a rotation; its matrix must be finite, and then the rotation is.
-fn settled(m: Mat3F32) -> Swing
+fn settled(m: Mat3<f32>) -> Option<Quat<f32>>
     ensures { result ≡ settled_by m }
 {
     let q = rotations::quat_of_matrix(m);
@@ -154,7 +127,7 @@ fn settled(m: Mat3F32) -> Swing
 }
 
 // The pose of quaternion q moved by a step of quaternion e.
-fn swing_by(q: Quat, e: Quat) -> Swing
+fn swing_by(q: Quat<f64>, e: Quat<f64>) -> Option<Quat<f32>>
     ensures { result ≡ swung_by q e }
 {
     let b = rotations::rounded_quat(rotations::quat_product(q, e));
@@ -162,7 +135,7 @@ fn swing_by(q: Quat, e: Quat) -> Swing
 }
 
 // Moved by a step ahead and by one behind along axis c: an operation of the one and of the other in turn, so that a processor works on both at once.
-fn swings_by(q: Quat, c: usize) -> Swings
+fn swings_by(q: Quat<f64>, c: usize) -> Both<Option<Quat<f32>>>
     ensures { result ≡ swings_by q c }
 {
     let a = rotations::quat_product(q, step_quat(c, true));
@@ -177,19 +150,19 @@ fn swings_by(q: Quat, c: usize) -> Swings
     let b = rotations::quat_of_matrix(b);
     let m = matrix_again(a);
     let n = matrix_again(b);
-    Swings {
+    Both {
         ahead: swing_of(a, m),
         behind: swing_of(b, n),
     }
 }
 
 // The same, with the quaternion of all shifts at hand.
-fn swings_at(q: Quat, shift: Swing, c: usize) -> Swings
+fn swings_at(q: Quat<f64>, shift: Option<Quat<f32>>, c: usize) -> Both<Option<Quat<f32>>>
     ensures { result ≡ swings_at q shift c }
 {
     let shifts = c < 3;
     if shifts {
-        Swings {
+        Both {
             ahead: shift,
             behind: shift,
         }
@@ -198,16 +171,14 @@ fn swings_at(q: Quat, shift: Swing, c: usize) -> Swings
     }
 }
 
-fn join(s: Swing, t: Vec3F32) -> Converted
+fn join(s: Option<Quat<f32>>, t: Vec3<f32>) -> Result<Transform<f32>, Failure>
     ensures { result ≡ joined s t }
 {
-    let Swing::By(q) = s else {
-        return Converted::Bad(Failure::Numerical);
-    };
+    let q = s.ok_or(Failure::Numerical)?;
     if pose_conversion::vec3_f32_is_finite(t) {
-        Converted::Into(Transform { q, t })
+        Ok(Transform { q, t })
     } else {
-        Converted::Bad(Failure::Numerical)
+        Err(Failure::Numerical)
     }
 }
 
@@ -220,7 +191,7 @@ pub fn probing_of(m: Manifold) -> Probing
     match m {
         Manifold::Se3 => Probing::Se3,
         Manifold::Gravity(g) => {
-            let eps = numbers::widen(NUM_JACOBIAN_EPS);
+            let eps = f64::from(NUM_JACOBIAN_EPS);
             Probing::Gravity {
                 still: exp_log::turn_of(rotations::scaled(-0.0, g)),
                 ahead: exp_log::turn_of(rotations::scaled(-eps, g)),
@@ -231,13 +202,13 @@ pub fn probing_of(m: Manifold) -> Probing
 }
 
 // The rotation r turned by a probe's turn.
-fn spin_of(r: Mat3, turn: Turn) -> Spin
+fn spin_of(r: Mat3<f64>, turn: Option<Quat<f64>>) -> Spin
     ensures { result ≡ spin_of r turn }
 {
-    let Turn::By(q) = turn else {
+    let Some(q) = turn else {
         return Spin {
             rotation: r,
-            swing: Swing::Lost,
+            swing: None,
         };
     };
     let rotation = rotations::mat_product(r, rotations::matrix_of(q));
@@ -245,24 +216,23 @@ fn spin_of(r: Mat3, turn: Turn) -> Spin
     Spin { rotation, swing }
 }
 
-fn stance_se3(base: Converted) -> Stance
+fn stance_se3(base: Result<Transform<f32>, Failure>) -> Result<Stance, Failure>
     ensures { result ≡ stance_se3 base }
 {
-    match base {
-        Converted::Bad(why) => Stance::Bad(why),
-        Converted::Into(a) => {
-            let at = rotations::widened(a);
-            Stance::Se3 {
-                at,
-                matrix: rotations::matrix_of(at.q),
-                shift: swing_by(at.q, step_quat(0, true)),
-            }
-        }
-    }
+    let at = rotations::widened(base?);
+    Ok(Stance::Se3 {
+        at,
+        matrix: rotations::matrix_of(at.q),
+        shift: swing_by(at.q, step_quat(0, true)),
+    })
 }
 
 // Once a free pose p, whose transform is `base`.
-pub fn stance_of(probing: Probing, p: Pose, base: Converted) -> Stance
+pub fn stance_of(
+    probing: Probing,
+    p: Pose,
+    base: Result<Transform<f32>, Failure>,
+) -> Result<Stance, Failure>
     ensures { result ≡ stance_of probing p base }
 {
     match probing {
@@ -273,10 +243,10 @@ pub fn stance_of(probing: Probing, p: Pose, base: Converted) -> Stance
             behind,
         } => {
             if !pose_conversion::validate_pose(p) {
-                return Stance::Bad(Failure::Numerical);
+                return Err(Failure::Numerical);
             }
             let r = p.rotation;
-            Stance::Gravity {
+            Ok(Stance::Gravity {
                 centre: rotations::negated(rotations::turn_vec(
                     rotations::transposed(r),
                     p.translation,
@@ -284,14 +254,19 @@ pub fn stance_of(probing: Probing, p: Pose, base: Converted) -> Stance
                 still: spin_of(r, still),
                 ahead: spin_of(r, ahead),
                 behind: spin_of(r, behind),
-            }
+            })
         }
     }
 }
 
 // ---- the probes
 
-fn probes_se3(at: Rigid, matrix: Mat3, shift: Swing, c: usize) -> BothProbes
+fn probes_se3(
+    at: Transform<f64>,
+    matrix: Mat3<f64>,
+    shift: Option<Quat<f32>>,
+    c: usize,
+) -> Both<Result<Transform<f32>, Failure>>
     ensures { result ≡ probes_se3 at matrix shift c }
 {
     let a = rotations::sum_of(rotations::turn_vec(matrix, step_shift(c, true)), at.t);
@@ -301,13 +276,18 @@ fn probes_se3(at: Rigid, matrix: Mat3, shift: Swing, c: usize) -> BothProbes
     let swings = swings_at(at.q, shift, c);
     let ahead = swings.ahead;
     let behind = swings.behind;
-    BothProbes {
+    Both {
         ahead: join(ahead, a),
         behind: join(behind, b),
     }
 }
 
-fn probe_gravity(centre: Vec3, spin: Spin, c: usize, ahead: bool) -> Converted
+fn probe_gravity(
+    centre: Vec3<f64>,
+    spin: Spin,
+    c: usize,
+    ahead: bool,
+) -> Result<Transform<f32>, Failure>
     ensures { result ≡ probe_gravity centre spin c ahead }
 {
     let moved = rotations::sum_of(centre, step_shift(c, ahead));
@@ -316,24 +296,24 @@ fn probe_gravity(centre: Vec3, spin: Spin, c: usize, ahead: bool) -> Converted
     join(swing, pose_conversion::vec3_to_f32(t))
 }
 
-fn probes_gravity(centre: Vec3, a: Spin, b: Spin, c: usize) -> BothProbes
+fn probes_gravity(
+    centre: Vec3<f64>,
+    a: Spin,
+    b: Spin,
+    c: usize,
+) -> Both<Result<Transform<f32>, Failure>>
     ensures { result ≡ probes_gravity centre a b c }
 {
-    BothProbes {
+    Both {
         ahead: probe_gravity(centre, a, c, true),
         behind: probe_gravity(centre, b, c, false),
     }
 }
 
-// Along axis c.
-pub fn probes_at(s: Stance, c: usize) -> BothProbes
-    ensures { result ≡ probes_by s c }
+fn probes_of(stance: Stance, c: usize) -> Both<Result<Transform<f32>, Failure>>
+    ensures { result ≡ probes_by (Ok stance) c }
 {
-    match s {
-        Stance::Bad(why) => BothProbes {
-            ahead: Converted::Bad(why),
-            behind: Converted::Bad(why),
-        },
+    match stance {
         Stance::Se3 { at, matrix, shift } => probes_se3(at, matrix, shift, c),
         Stance::Gravity {
             centre,
@@ -347,5 +327,18 @@ pub fn probes_at(s: Stance, c: usize) -> BothProbes
                 probes_gravity(centre, still, still, c)
             }
         }
+    }
+}
+
+// Along axis c; none where the stance could not be had.
+pub fn probes_at(stance: Result<Stance, Failure>, c: usize) -> Both<Result<Transform<f32>, Failure>>
+    ensures { result ≡ probes_by stance c }
+{
+    match stance {
+        Ok(stance) => probes_of(stance, c),
+        Err(why) => Both {
+            ahead: Err(why),
+            behind: Err(why),
+        },
     }
 }

@@ -9,6 +9,10 @@ use native.Mathlib.Omega.{arith}
 pub before : (n a b : ℕ) → a < b → a * n + n ≤ b * n
 before n a b h = omega (arith, mul-le-mul_right n h, suc-mul a n)
 
+-- a line of the matrix ends within it
+pub line_within : (n a : ℕ) → a < n → a * n + n ≤ n * n
+line_within n a h = before n a n h
+
 pub le_or_lt : (a b : ℕ) → (a ≤ b) ⊎ (b < a)
 le_or_lt zero b = inl (omega arith)
 le_or_lt (suc a) zero = inr (omega arith)

@@ -1,5 +1,5 @@
 -- Laws of `leading`: what passed, the first that does not, and the end. Assumes nothing.
-use mathlib.Core.Path.{◌≡◌, refl, ap, ◌∙◌}
+use mathlib.Core.Path.{◌≡◌, refl, sym, ap, ◌∙◌}
 use mathlib.Core.Logic.{⊎_elim}
 use mathlib.Core.Bool.{Bool, true, false, ◌&&◌, cond, and-false}
 use Prim.Native.Nat.{ℕ, zero, suc, ◌+◌, ◌-◌, ◌<◌, ◌≤◌}
@@ -9,14 +9,16 @@ use native.Mathlib.Omega.{arith}
 use borrow.Author.Tests.{eq-eqb, ne_eqb, eqb-true}
 use lib.Dec.{eqb}
 use Rattle.numbers.proofs.Tests.{and_first, and_second}
+use Rattle.std.proofs.Common.{Option, None, Some}
+use Rattle.std.specs.Option.{MatchOption, unwrap_or}
 use Rattle.profile.specs.Starts.{leading}
 
 module _ (t : ℕ → Bool) where
-  pub leading_none : leading t 0 ≡ 0
+  leading_none : leading t 0 ≡ 0
   unfolding leading
   leading_none = refl
 
-  pub leading_more : (n : ℕ) → leading t n ≡ n → t n ≡ true → leading t (n + 1) ≡ n + 1
+  leading_more : (n : ℕ) → leading t n ≡ n → t n ≡ true → leading t (n + 1) ≡ n + 1
   unfolding leading
   leading_more n e h = rw (add-one n, e, eq-eqb n n refl, h)
 
@@ -25,8 +27,19 @@ module _ (t : ℕ → Bool) where
   past j zero e h = rw (zero-add (suc j), h, and-false (eqb (leading t j) j)) e
   past j (suc k) e h = rw (suc-add k (suc j), past j k e h, ne_eqb j (k + suc j) (λ z. omega arith))
 
-  pub leading_stop : (j n : ℕ) → j < n → leading t j ≡ j → t j ≡ false → leading t n ≡ j
+  leading_stop : (j n : ℕ) → j < n → leading t j ≡ j → t j ≡ false → leading t n ≡ j
   leading_stop j n l e h = let q : n ≡ (n - suc j) + suc j = omega arith in ap (leading t) q ∙ past j (n - suc j) e h
+
+  leading_passed : (n : ℕ) → ((k : ℕ) → k < n → t k ≡ true) → leading t n ≡ n
+  leading_passed zero h = leading_none
+  leading_passed (suc n) h = rw (← add-one) (leading_more n (leading_passed n (λ k l. h k (omega arith))) (h n (omega arith)))
+
+  -- the first that does not pass, if there is one, and else n
+  pub leading_found : (n : ℕ) (r : Option ℕ)
+      → MatchOption r ((k : ℕ) → 0 ≤ k → k < n → t k ≡ true) (λ j. (0 ≤ j) × (j < n) × (t j ≡ false) × ((k : ℕ) → 0 ≤ k → k < j → t k ≡ true))
+      → unwrap_or r n ≡ leading t n
+  leading_found n None h = sym (leading_passed n (λ k l. h k (omega arith) l))
+  leading_found n (Some j) h = sym (leading_stop j n h.1 (leading_passed j (λ k l. h.3 k (omega arith) l)) h.2)
 
   pub leading_low : (n : ℕ) → leading t n ≤ n
   unfolding leading

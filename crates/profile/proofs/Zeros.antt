@@ -9,9 +9,10 @@ use borrow.Author.Tests.{le-ltb, lt-ltb, eqb-true, eqb-false, not-false}
 use lib.IntN.{ℤ, pos, negsuc}
 use lib.Dec.{T, eqb, eqb→eq, eqb-suc-zero}
 use lib.Pow.{pow_pos}
-use lib.Ieee.{Float, nan, inf, fin, binary32, up, down, unlike, round, sum, add, sub, mul, div, neg, eq, fits, is_nan, of_bits, to_bits}
+use lib.Ieee.{Float, nan, inf, fin, binary32, up, down, unlike, round, sum, add, sub, mul, div, neg, eq, fits, is_nan, of_bits}
 use lib.Ieee.Fits.{up_pos, down_pos}
 use lib.Ieee.Scale.{finite, round_same}
+use Rattle.std.specs.Float.{is_sign_negative}
 use Rattle.numbers.specs.Notation.{◌⊟◌, ◌⊠◌, ◌⧄◌, num}
 use Rattle.rounding.specs.Rounding.{rounded}
 use Rattle.profile.specs.Starts.{plus_zero, minus_zero}
@@ -186,25 +187,15 @@ plus_zero_is (fin true m e) f h = absurd (true≢false (sym h))
 plus_zero_is (fin false (suc m) e) f h = absurd (true≢false (sym h ∙ eqb-suc-zero m))
 plus_zero_is (fin false zero e) f h = zero_at false e f ∙ sym zero_is
 
--- ---- the bits of a zero
+-- ---- the sign of a zero
 
-minus_bits : (s : Bool) → not (eqb (to_bits binary32 (fin s 0 (pos 0))) 0) ≡ s
-unfolding to_bits
-minus_bits true = refl
-minus_bits false = refl
+pub minus_zero_sign : (v : Float) → Fits v → eq v (num 0) ≡ true → is_sign_negative v ≡ minus_zero v
+unfolding minus_zero is_sign_negative
+minus_zero_sign v f h = let z = equal_zero v f h in rw z.1 (sym (and-true z.0))
 
-pub minus_zero_bits : (v : Float) → Fits v → eq v (num 0) ≡ true → not (eqb (to_bits binary32 v) 0) ≡ minus_zero v
-unfolding minus_zero
-minus_zero_bits v f h = let z = equal_zero v f h in rw z.1 (minus_bits z.0 ∙ sym (and-true z.0))
-
-plus_bits : (s : Bool) → eqb (to_bits binary32 (fin s 0 (pos 0))) 0 ≡ not s
-unfolding to_bits
-plus_bits true = refl
-plus_bits false = refl
-
-pub plus_zero_bits : (v : Float) → Fits v → eq v (num 0) ≡ true → eqb (to_bits binary32 v) 0 ≡ plus_zero v
-unfolding plus_zero
-plus_zero_bits v f h = let z = equal_zero v f h in rw z.1 (plus_bits z.0 ∙ sym (and-true (not z.0)))
+pub plus_zero_sign : (v : Float) → Fits v → eq v (num 0) ≡ true → not (is_sign_negative v) ≡ plus_zero v
+unfolding plus_zero is_sign_negative
+plus_zero_sign v f h = let z = equal_zero v f h in rw z.1 (sym (and-true (not z.0)))
 
 pub equal_number : (v x : Float) → eq v x ≡ true → T (not (is_nan v))
 unfolding eq is_nan

@@ -10,41 +10,33 @@ ghost use Rattle.profile.specs.Starts.{plus_zero, minus_zero, order_for, start_o
 pub fn has_room(len: usize, n: usize) -> bool
     ensures { result ≡ leb (need n) len }
 {
-    if n == 0usize {
+    if n == 0 {
         return true;
     }
     let q = len / n;
-    if q < 3usize {
+    if q < 3 {
         return false;
     }
-    n <= q - 3usize
+    n <= q - 3
 }
 
 // n where there is room for n unknowns, else 0.
 fn order_for(len: usize, n: usize) -> usize
     ensures { result ≡ order_for len n }
 {
-    if has_room(len, n) { n } else { 0usize }
+    if has_room(len, n) { n } else { 0 }
 }
 
 fn minus_zero(v: f32) -> bool
     ensures { result ≡ minus_zero v }
 {
-    if v == 0.0 {
-        f32::to_bits(v) != 0u32
-    } else {
-        false
-    }
+    v == 0.0 && v.is_sign_negative()
 }
 
 fn plus_zero(v: f32) -> bool
     ensures { result ≡ plus_zero v }
 {
-    if v == 0.0 {
-        f32::to_bits(v) == 0u32
-    } else {
-        false
-    }
+    v == 0.0 && v.is_sign_positive()
 }
 
 // The first j with H(i,j) not +0, and i where there is none.
@@ -53,16 +45,9 @@ fn first_in(w: &[f32], n: usize, i: usize) -> usize
     ensures { result ≡ start_of w.now n i }
 {
     if n <= i {
-        return 0usize;
+        return 0;
     }
-    let mut j = 0usize;
-    while j < i {
-        if !plus_zero(w[j * n + i]) {
-            return j;
-        }
-        j += 1usize;
-    }
-    i
+    (0..i).find(|j| !plus_zero(w[*j * n + i])).unwrap_or(i)
 }
 
 // Where each row starts. A run has at most 384 unknowns, 6 for each of 64 free poses; rows past them start at 0.
@@ -70,11 +55,9 @@ pub fn starts(w: &[f32], n: usize) -> [usize; 384]
     ensures { result ≡ starts_of w.now n }
 {
     let m = order_for(w.len(), n);
-    let mut f = [0usize; 384];
-    let mut i = 0usize;
-    while i < 384usize {
+    let mut f = [0; 384];
+    for i in 0..384 {
         f[i] = first_in(w, m, i);
-        i += 1usize;
     }
     f
 }
@@ -82,7 +65,7 @@ pub fn starts(w: &[f32], n: usize) -> [usize; 384]
 pub fn first_of(f: &[usize; 384], i: usize) -> usize
     ensures { result ≡ first_of f.now i }
 {
-    if i < 384usize { f[i] } else { 0usize }
+    if i < 384 { f[i] } else { 0 }
 }
 
 // Where the products to be taken from v start, of rows that start at a and at b.
@@ -90,7 +73,7 @@ pub fn start(v: f32, a: usize, b: usize) -> usize
     ensures { result ≡ start_at v a b }
 {
     if minus_zero(v) {
-        return 0usize;
+        return 0;
     }
-    if a < b { b } else { a }
+    a.max(b)
 }

@@ -1,176 +1,91 @@
 // Numbers in lent bytes, little-endian, floats by their bits. Past the end all bytes are 0.
-ghost use Rattle.std.specs.Prelude.{◌≡◌, ◌<◌, ◌≤◌, length};
+ghost use Rattle.std.specs.Prelude.{◌≤◌};
 
-// No file reaches as far.
-const FAR: usize = 16777216;
+use std::array;
 
-fn wide_byte(x: u8) -> u32
-    ensures { result < 256 }
-{
-    x as u32
+// The i-th N bytes from `at` on.
+fn bytes_at<const N: usize>(b: &[u8], at: usize, i: usize) -> [u8; N] {
+    let from = at.saturating_add(i.saturating_mul(N));
+    array::from_fn(|k| b.get(from.saturating_add(k)).copied().unwrap_or(0))
 }
 
-fn byte_at(b: &[u8], i: usize) -> u32
-    ensures { result < 256 }
-{
-    if i < b.len() { wide_byte(b[i]) } else { 0 }
-}
+// A number as a record has it.
+pub trait Recorded: Copy {
+    // The i-th of those from `at` on.
+    fn read(b: &[u8], at: usize, i: usize) -> Self;
 
-fn wide(x: u32) -> u64
-    ensures { result ≡ x }
-{
-    x as u64
-}
+    // None at a NaN.
+    fn bits(self) -> Option<u64>;
 
-// The i-th of the u32 from `at` on.
-pub fn u32_at(b: &[u8], at: usize, i: usize) -> u32 {
-    if FAR <= at {
-        return 0;
+    // A NaN is the same as any NaN.
+    fn is_same(self, other: Self) -> bool {
+        self.bits() == other.bits()
     }
-    if FAR <= i {
-        return 0;
+}
+
+impl Recorded for u32 {
+    fn read(b: &[u8], at: usize, i: usize) -> u32 {
+        u32::from_le_bytes(bytes_at(b, at, i))
     }
-    let p = at + i * 4;
-    let low = byte_at(b, p) + byte_at(b, p + 1) * 256;
-    let high = byte_at(b, p + 2) + byte_at(b, p + 3) * 256;
-    low + high * 65536
-}
 
-fn u64_at(b: &[u8], at: usize, i: usize) -> u64 {
-    if FAR <= i {
-        return 0;
+    fn bits(self) -> Option<u64> {
+        Some(u64::from(self))
     }
-    let low = u32_at(b, at, i * 2);
-    let high = u32_at(b, at, i * 2 + 1);
-    wide(low) + wide(high) * 4294967296
 }
 
-fn least(m: usize, n: usize) -> usize
-    ensures { (result ≤ m) × (result ≤ n) }
-{
-    if m < n { m } else { n }
+impl Recorded for f32 {
+    fn read(b: &[u8], at: usize, i: usize) -> f32 {
+        let bits = u32::from_le_bytes(bytes_at(b, at, i));
+        if 0x7f80_0000 < bits % 0x8000_0000 {
+            f32::NAN
+        } else {
+            f32::from_bits(bits)
+        }
+    }
+
+    fn bits(self) -> Option<u64> {
+        if self.is_nan() {
+            None
+        } else {
+            Some(u64::from(self.to_bits()))
+        }
+    }
 }
 
-// The same as a count, at most `most`.
+impl Recorded for f64 {
+    fn read(b: &[u8], at: usize, i: usize) -> f64 {
+        let bits = u64::from_le_bytes(bytes_at(b, at, i));
+        if 0x7ff0_0000_0000_0000 < bits % 0x8000_0000_0000_0000 {
+            f64::NAN
+        } else {
+            f64::from_bits(bits)
+        }
+    }
+
+    fn bits(self) -> Option<u64> {
+        if self.is_nan() {
+            None
+        } else {
+            Some(self.to_bits())
+        }
+    }
+}
+
+// A recorded count, at most `most`.
 pub fn count_at(b: &[u8], at: usize, i: usize, most: usize) -> usize
     ensures { result ≤ most }
 {
-    least(u32_at(b, at, i) as usize, most)
+    (u32::read(b, at, i) as usize).min(most)
 }
 
-fn float32(bits: u32) -> f32 {
-    if 0x7f80_0000 < bits % 0x8000_0000 {
-        return 0.0f32 / 0.0f32;
-    }
-    f32::from_bits(bits)
+// The list from `at` on.
+pub fn list<T: Recorded, const N: usize>(b: &[u8], at: usize) -> [T; N] {
+    array::from_fn(|i| T::read(b, at, i))
 }
 
-fn float64(bits: u64) -> f64 {
-    if 0x7ff0_0000_0000_0000 < bits % 0x8000_0000_0000_0000 {
-        return 0.0f64 / 0.0f64;
-    }
-    f64::from_bits(bits)
-}
-
-pub fn f32_at(b: &[u8], at: usize, i: usize) -> f32 {
-    float32(u32_at(b, at, i))
-}
-
-pub fn f64_at(b: &[u8], at: usize, i: usize) -> f64 {
-    float64(u64_at(b, at, i))
-}
-
-// ---- the same bits; a NaN is the same as any NaN
-
-pub fn same32(x: f32, y: f32) -> bool {
-    if x != x {
-        return y != y;
-    }
-    if y != y {
-        return false;
-    }
-    f32::to_bits(x) == f32::to_bits(y)
-}
-
-pub fn same64(x: f64, y: f64) -> bool {
-    if x != x {
-        return y != y;
-    }
-    if y != y {
-        return false;
-    }
-    f64::to_bits(x) == f64::to_bits(y)
-}
-
-// ---- lists from `at` on, by value: no record's list is longer
-
-pub fn u32s(b: &[u8], at: usize) -> [u32; 4096]
-    ensures { length result ≡ 4096 }
-{
-    let mut xs = [0u32; 4096];
-    let mut i = 0usize;
-    while i < 4096 {
-        xs[i] = u32_at(b, at, i);
-        i += 1;
-    }
-    xs
-}
-
-pub fn f32s(b: &[u8], at: usize) -> [f32; 4288]
-    ensures { length result ≡ 4288 }
-{
-    let mut xs = [0.0f32; 4288];
-    let mut i = 0usize;
-    while i < 4288 {
-        xs[i] = f32_at(b, at, i);
-        i += 1;
-    }
-    xs
-}
-
-pub fn f64s(b: &[u8], at: usize) -> [f64; 2048]
-    ensures { length result ≡ 2048 }
-{
-    let mut xs = [0.0f64; 2048];
-    let mut i = 0usize;
-    while i < 2048 {
-        xs[i] = f64_at(b, at, i);
-        i += 1;
-    }
-    xs
-}
-
-// ---- whether a list is the same from `at` on
-
-pub fn same_u32s(xs: &[u32], b: &[u8], at: usize) -> bool {
-    let mut i = 0usize;
-    while i < xs.len() {
-        if xs[i] != u32_at(b, at, i) {
-            return false;
-        }
-        i += 1;
-    }
-    true
-}
-
-pub fn same_f32s(xs: &[f32], b: &[u8], at: usize) -> bool {
-    let mut i = 0usize;
-    while i < xs.len() {
-        if !same32(xs[i], f32_at(b, at, i)) {
-            return false;
-        }
-        i += 1;
-    }
-    true
-}
-
-pub fn same_f64s(xs: &[f64], b: &[u8], at: usize) -> bool {
-    let mut i = 0usize;
-    while i < xs.len() {
-        if !same64(xs[i], f64_at(b, at, i)) {
-            return false;
-        }
-        i += 1;
-    }
-    true
+// Whether a list is the same from `at` on.
+pub fn same<T: Recorded>(xs: &[T], b: &[u8], at: usize) -> bool {
+    xs.iter()
+        .enumerate()
+        .all(|(i, x)| x.is_same(T::read(b, at, i)))
 }

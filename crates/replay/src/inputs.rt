@@ -2,14 +2,15 @@
 ghost use Rattle.std.specs.Prelude.{◌≤◌};
 
 use crate::bytes;
+use crate::bytes::Recorded;
 use graph::Manifold;
 use rotations::Vec3;
 use rows::Settings;
 
 // No record holds more.
-const POSES: usize = 2048;
+pub const POSES: usize = 2048;
 
-const REST: usize = 4096;
+pub const REST: usize = 4096;
 
 // How many numbers each list has, and where those after the poses start; `end` is where the last ends.
 #[derive(Clone, Copy)]
@@ -24,15 +25,20 @@ pub struct Lists {
     pub end: usize,
 }
 
-pub fn manifold_of(b: &[u8]) -> Manifold {
-    if bytes::u32_at(b, 0, 0) == 6 {
-        return Manifold::Se3;
+pub fn vec_at<T: Recorded>(b: &[u8], at: usize) -> Vec3<T> {
+    Vec3 {
+        x: T::read(b, at, 0),
+        y: T::read(b, at, 1),
+        z: T::read(b, at, 2),
     }
-    Manifold::Gravity(Vec3 {
-        x: bytes::f64_at(b, 4, 0),
-        y: bytes::f64_at(b, 4, 1),
-        z: bytes::f64_at(b, 4, 2),
-    })
+}
+
+pub fn manifold_of(b: &[u8]) -> Manifold {
+    if u32::read(b, 0, 0) == 6 {
+        Manifold::Se3
+    } else {
+        Manifold::Gravity(vec_at(b, 4))
+    }
 }
 
 pub fn lists_of(b: &[u8]) -> Lists
@@ -59,15 +65,14 @@ pub fn lists_of(b: &[u8]) -> Lists
 
 pub fn recorded_settings(b: &[u8]) -> Settings {
     Settings {
-        limit: bytes::u32_at(b, 44, 0),
-        cost_tolerance: bytes::f32_at(b, 44, 1),
-        gradient_tolerance: bytes::f32_at(b, 44, 2),
-        damping: bytes::f32_at(b, 44, 3),
+        limit: u32::read(b, 44, 0),
+        cost_tolerance: f32::read(b, 44, 1),
+        gradient_tolerance: f32::read(b, 44, 2),
+        damping: f32::read(b, 44, 3),
     }
 }
 
 // Whether what a run is lent has room.
 pub fn has_room(b: &[u8]) -> bool {
-    (bytes::u32_at(b, 60, 0) <= 262144)
-        & ((bytes::u32_at(b, 60, 1) <= 6144) & (bytes::u32_at(b, 60, 2) <= 2048))
+    u32::read(b, 60, 0) <= 262144 && u32::read(b, 60, 1) <= 6144 && u32::read(b, 60, 2) <= 2048
 }

@@ -1,15 +1,16 @@
 // The decisions over a prepared list again, and what they told beside what the record has.
 ghost use Rattle.std.specs.Prelude.{◌≤◌};
 
+use crate::bytes::Recorded;
 use crate::{bytes, runs};
-use decisions::{End, Next, State, Why};
-use numbers::Verdict;
+use decisions::{Next, State, Why};
 use rows::Settings;
 
 // No record holds more.
 const EVENTS: usize = 2048;
 
-// Status: 0 over, 1 the list ended first, or the refusal's number. How much was written: 0 nothing, 1 the answer, 2 answer and costs.
+// Status: 0 over, 1 the list ended first, or the refusal's number. How much was written: 0 nothing, 1 the answer, 2 answer and costs. Numbers, and not an enum,
+// since they are compared with the record's, whose form is fixed.
 #[derive(Clone, Copy)]
 struct Told {
     status: u32,
@@ -36,7 +37,7 @@ fn stopped(first: f32, s: State, w: Why) -> Told {
             0,
             0,
             iterations,
-            runs::one_if(sparse_pgo::has_converged(w)),
+            u32::from(sparse_pgo::has_converged(w)),
             s.accepted,
             s.rejected,
             s.failed,
@@ -55,18 +56,18 @@ fn tell(first: f32, n: Next) -> Told {
             costs: [0.0, 0.0],
         },
         Next::Over(s, e) => match e {
-            End::Refused(r) => turned(runs::refused(r)),
-            End::Stopped(w) => stopped(first, s, w),
+            Err(r) => turned(runs::refused(r)),
+            Ok(w) => stopped(first, s, w),
         },
     }
 }
 
 // The settings are asked first; there is no gradient.
 fn decided(b: &[u8], events: &[u32], prices: &[f32]) -> Told {
-    let limit = bytes::u32_at(b, 0, 0);
-    let tolerance = bytes::f32_at(b, 0, 1);
-    let cost = bytes::f32_at(b, 0, 2);
-    let damping = bytes::f32_at(b, 0, 3);
+    let limit = u32::read(b, 0, 0);
+    let tolerance = f32::read(b, 0, 1);
+    let cost = f32::read(b, 0, 2);
+    let damping = f32::read(b, 0, 3);
     let asked = rows::validate_settings(Settings {
         limit,
         cost_tolerance: tolerance,
@@ -74,8 +75,8 @@ fn decided(b: &[u8], events: &[u32], prices: &[f32]) -> Told {
         damping,
     });
     match asked {
-        Verdict::Refused(r) => turned(runs::refused(r)),
-        Verdict::Fine => tell(
+        Err(r) => turned(runs::refused(r)),
+        Ok(()) => tell(
             cost,
             events::drive(limit, tolerance, cost, damping, events, prices),
         ),
@@ -85,11 +86,9 @@ fn decided(b: &[u8], events: &[u32], prices: &[f32]) -> Told {
 fn same_told(t: Told, b: &[u8], at: usize) -> bool
     requires { at ≤ 16404 }
 {
-    let two = [t.status, t.written];
-    let answer = t.answer;
-    let costs = t.costs;
-    bytes::same_u32s(&two, b, at)
-        & (bytes::same_u32s(&answer, b, at + 8) & bytes::same_f32s(&costs, b, at + 40))
+    bytes::same(&[t.status, t.written], b, at)
+        && bytes::same(&t.answer, b, at + 8)
+        && bytes::same(&t.costs, b, at + 40)
 }
 
 pub fn is_whole(b: &[u8]) -> bool {
@@ -100,8 +99,8 @@ pub fn is_whole(b: &[u8]) -> bool {
 // Events and prices as many as the record says.
 pub fn same_list(b: &[u8]) -> bool {
     let n = bytes::count_at(b, 16, 0, EVENTS);
-    let events = bytes::u32s(b, 20);
-    let prices = bytes::f32s(b, 20 + n * 4);
+    let events: [u32; EVENTS] = bytes::list(b, 20);
+    let prices: [f32; EVENTS] = bytes::list(b, 20 + n * 4);
     let t = decided(b, &events[..n], &prices[..n]);
     same_told(t, b, 20 + n * 8)
 }

@@ -4,241 +4,135 @@
 
 mod bytes;
 mod inputs;
+mod kinds;
 mod layers;
 mod lists;
 mod runs;
 mod say;
 mod systems;
 
-ghost use Rattle.std.specs.Prelude.{◌≤◌, length};
-
-use say::Tally;
+use bytes::Recorded;
+use kinds::Kind;
+use say::{BadInput, Tally};
 use std::io::{Read, Write};
 
 // `PGOV` and version 1.
 fn is_headed(file: &[u8]) -> bool {
-    (bytes::u32_at(file, 0, 0) == 0x564f_4750) & (bytes::u32_at(file, 4, 0) == 1)
+    u32::read(file, 0, 0) == 0x564f_4750 && u32::read(file, 4, 0) == 1
 }
 
-// ---- the layers: many items to a record
+// ---- one record
 
-// How many bytes an item takes.
-fn item_size(kind: u32, b: &[u8]) -> usize
-    ensures { result ≤ 34316 }
+// One case, a run or an assembly alone, of the lists that the record starts with.
+fn same_graph<F: Fn(&[u8], &[f64], &[u32], &[f32], &[u32]) -> bool>(b: &[u8], same: F) -> bool
+    requires { F.IsAlwaysCallable same }
 {
-    match kind {
-        16 => 12,
-        17 => 8,
-        18 => 16,
-        19 => 56,
-        20 => 88,
-        21 => 60,
-        22 => 56,
-        23 => 56,
-        24 => 220,
-        25 => 236,
-        26 => 252,
-        _ => systems::solve_size(b),
-    }
-}
-
-fn same_item(kind: u32, b: &[u8]) -> bool {
-    match kind {
-        16 => layers::same_narrow(b),
-        17 => layers::same_sqrt32(b),
-        18 => layers::same_sqrt64(b),
-        19 => layers::same_quaternion(b),
-        20 => layers::same_product(b),
-        21 => layers::same_inverse(b),
-        22 => layers::same_exp(b),
-        23 => layers::same_log(b),
-        24 => layers::same_retract(b),
-        25 => layers::same_retract_with_gravity(b),
-        26 => layers::same_residual(b),
-        _ => systems::same_solve(b),
-    }
-}
-
-// What was counted, and whether all could be read.
-#[derive(Clone, Copy)]
-struct Counted {
-    whole: bool,
-    tally: Tally,
-}
-
-// Whole where the items fill the record.
-fn items<W: Write>(out: &mut W, kind: u32, b: &[u8], before: Tally) -> Counted {
-    let n = bytes::u32_at(b, 0, 0);
-    let mut tally = before;
-    if b.len() < 4 {
-        return Counted {
-            whole: false,
-            tally,
-        };
-    }
-    let mut at = 4usize;
-    let mut k = 0u32;
-    while k < n {
-        let size = item_size(kind, &b[at..]);
-        if b.len() - at < size {
-            return Counted {
-                whole: false,
-                tally,
-            };
-        }
-        tally = say::counted(out, tally, kind, same_item(kind, &b[at..]));
-        at += size;
-        k += 1;
-    }
-    Counted {
-        whole: at == b.len(),
-        tally,
-    }
-}
-
-// ---- a record that is one case
-
-fn is_whole(kind: u32, b: &[u8]) -> bool {
-    match kind {
-        1 => runs::is_whole(b),
-        2 => systems::is_whole_assembly(b),
-        3 => lists::is_whole(b),
-        _ => false,
-    }
-}
-
-// A run, or an assembly alone, of the lists that the record starts with.
-fn same_graph(kind: u32, b: &[u8]) -> bool {
     let l = inputs::lists_of(b);
-    let p = l.poses;
-    let e = l.ends;
-    let f = l.edges;
-    let x = l.fixed;
-    let all_poses = bytes::f64s(b, 72);
-    let all_ends = bytes::u32s(b, l.ends_at);
-    let all_edges = bytes::f32s(b, l.edges_at);
-    let all_fixed = bytes::u32s(b, l.fixed_at);
-    let poses = &all_poses[..p];
-    let ends = &all_ends[..e];
-    let edges = &all_edges[..f];
-    let fixed = &all_fixed[..x];
-    if kind == 1 {
-        return runs::same_run(b, poses, ends, edges, fixed);
-    }
-    systems::same_assembly(b, poses, ends, edges, fixed)
+    let poses: [f64; inputs::POSES] = bytes::list(b, 72);
+    let ends: [u32; inputs::REST] = bytes::list(b, l.ends_at);
+    let edges: [f32; inputs::REST] = bytes::list(b, l.edges_at);
+    let fixed: [u32; inputs::REST] = bytes::list(b, l.fixed_at);
+    same(
+        b,
+        &poses[..l.poses],
+        &ends[..l.ends],
+        &edges[..l.edges],
+        &fixed[..l.fixed],
+    )
 }
 
-fn same_record(kind: u32, b: &[u8]) -> bool {
-    if kind == 3 {
-        return lists::same_list(b);
+// How many bytes the first case takes, and whether it is the same; none where a record that is one case is not whole.
+fn case(kind: Kind, b: &[u8]) -> Option<(usize, bool)> {
+    let found = match kind {
+        Kind::Run if runs::is_whole(b) => (b.len(), same_graph(b, runs::same_run)),
+        Kind::Assembly if systems::is_whole_assembly(b) => {
+            (b.len(), same_graph(b, systems::same_assembly))
+        }
+        Kind::List if lists::is_whole(b) => (b.len(), lists::same_list(b)),
+        Kind::Run | Kind::Assembly | Kind::List => return None,
+        Kind::Narrow => (12, layers::same_narrow(b)),
+        Kind::Sqrt32 => (8, layers::same_sqrt32(b)),
+        Kind::Sqrt64 => (16, layers::same_sqrt64(b)),
+        Kind::QuaternionOfMatrix => (56, layers::same_quaternion(b)),
+        Kind::Product => (88, layers::same_product(b)),
+        Kind::Inverse => (60, layers::same_inverse(b)),
+        Kind::Exp => (56, layers::same_exp(b)),
+        Kind::Log => (56, layers::same_log(b)),
+        Kind::Retract => (220, layers::same_retract(b)),
+        Kind::RetractWithGravity => (236, layers::same_retract_with_gravity(b)),
+        Kind::Residual => (252, layers::same_residual(b)),
+        Kind::Solve => (systems::solve_size(b), systems::same_solve(b)),
+    };
+    Some(found)
+}
+
+// How many cases a record has, and where they start.
+fn cases(kind: Kind, b: &[u8]) -> Option<(u32, &[u8])> {
+    match kind {
+        Kind::Run | Kind::Assembly | Kind::List => Some((1, b)),
+        _ => Some((u32::read(b, 0, 0), b.get(4..)?)),
     }
-    same_graph(kind, b)
+}
+
+// None where the record is of no known form: its cases fill it.
+fn replayed<W: Write>(out: &mut W, tally: &mut Tally, kind: Kind, b: &[u8]) -> Option<()> {
+    let (n, mut rest) = cases(kind, b)?;
+    for _ in 0..n {
+        let (size, same) = case(kind, rest)?;
+        rest = rest.get(size..)?;
+        tally.count(out, kind, same);
+    }
+    rest.is_empty().then_some(())
 }
 
 // ---- records
 
 #[derive(Clone, Copy)]
-struct Record {
-    whole: bool,
+struct Record<'a> {
     kind: u32,
-    from: usize,
-    to: usize,
+    bytes: &'a [u8],
+    end: usize,
 }
 
 // The record at `at`, where all of it is there.
-fn record_at(file: &[u8], at: usize) -> Record
-    ensures { (result.from ≤ result.to) × (result.to ≤ length file.now) }
-{
-    let kind = bytes::u32_at(file, at, 0);
+fn record_at(file: &[u8], at: usize) -> Option<Record<'_>> {
+    let kind = u32::read(file, at, 0);
     let size = bytes::count_at(file, at, 1, 16384);
-    if at < file.len() {
-        if 8 + size <= file.len() - at {
-            return Record {
-                whole: true,
-                kind,
-                from: at + 8,
-                to: at + 8 + size,
-            };
-        }
-    }
-    Record {
-        whole: false,
-        kind,
-        from: 0,
-        to: 0,
-    }
+    let from = at.checked_add(8)?;
+    let end = from.checked_add(size)?;
+    let bytes = file.get(from..end)?;
+    Some(Record { kind, bytes, end })
 }
 
-// Whole where the record could be read.
-fn replayed<W: Write>(out: &mut W, kind: u32, b: &[u8], before: Tally) -> Counted {
-    if (16 <= kind) & (kind <= 27) {
-        return items(out, kind, b, before);
+fn records<W: Write>(out: &mut W, file: &[u8]) -> Result<Tally, BadInput> {
+    if !is_headed(file) {
+        return Err(BadInput::NoList);
     }
-    if !is_whole(kind, b) {
-        return Counted {
-            whole: false,
-            tally: before,
-        };
+    let mut tally = Tally::new();
+    let mut at = 12;
+    for r in 0..u32::read(file, 8, 0) {
+        let record = record_at(file, at).ok_or(BadInput::CutShort(r))?;
+        let kind = Kind::try_from(record.kind).map_err(|_| BadInput::Unknown(r))?;
+        replayed(out, &mut tally, kind, record.bytes).ok_or(BadInput::Unknown(r))?;
+        at = record.end;
     }
-    let tally = say::counted(out, before, kind, same_record(kind, b));
-    Counted { whole: true, tally }
-}
-
-fn records<W: Write>(out: &mut W, file: &[u8]) -> Counted {
-    let n = bytes::u32_at(file, 8, 0);
-    let mut tally = say::nothing();
-    let mut at = 12usize;
-    let mut r = 0u32;
-    while r < n {
-        let record = record_at(file, at);
-        let from = record.from;
-        let to = record.to;
-        let there = record.whole;
-        if !there {
-            say::cut_short(out, r);
-            return Counted {
-                whole: false,
-                tally,
-            };
-        }
-        let c = replayed(out, record.kind, &file[from..to], tally);
-        tally = c.tally;
-        let known = c.whole;
-        if !known {
-            say::unknown(out, r);
-            return Counted {
-                whole: false,
-                tally,
-            };
-        }
-        at = to;
-        r += 1;
+    if at == file.len() {
+        Ok(tally)
+    } else {
+        Err(BadInput::LeftOver)
     }
-    if at != file.len() {
-        say::left_over(out);
-        return Counted {
-            whole: false,
-            tally,
-        };
-    }
-    Counted { whole: true, tally }
 }
 
 fn replay<W: Write>(out: &mut W, file: &[u8]) {
-    if !is_headed(file) {
-        say::no_list(out);
-        return;
-    }
-    let c = records(out, file);
-    let whole = c.whole;
-    if whole {
-        let tally = c.tally;
-        say::report(out, tally);
+    match records(out, file) {
+        Ok(tally) => tally.report(out),
+        Err(bad) => say::bad_input(out, bad),
     }
 }
 
+// A list that could not be read to its end is replayed as far as it came.
 fn replay_input<R: Read, W: Write>(from: &mut R, out: &mut W, file: &mut [u8]) {
-    let n = input::read_input(from, file).bytes;
+    let n = input::read_input(from, file).unwrap_or_else(|e| e.bytes);
     replay(out, &file[..n]);
 }
 

@@ -1,20 +1,21 @@
 // A run again, and its answer beside the one in the record.
 ghost use Rattle.std.specs.Prelude.{◌≤◌};
 
+use crate::bytes::Recorded;
 use crate::inputs::Lists;
 use crate::{bytes, inputs};
 use decisions::Why;
 use numbers::Refusal;
-use sparse_pgo::{Answer, Joined};
+use sparse_pgo::Joined;
 
 // What the output holds before a run.
 const STALE: f64 = 0.5;
 
 pub fn number_of(i: usize) -> u32 {
-    if i < 4294967296 { i as u32 } else { 4294967295 }
+    u32::try_from(i).unwrap_or(u32::MAX)
 }
 
-// 1 Budget, 2 Gradient, 3 Step, 4 Cost, 5 Damping.
+// The number that records have.
 pub fn stop_of(w: Why) -> u32 {
     match w {
         Why::Budget => 1,
@@ -25,53 +26,37 @@ pub fn stop_of(w: Why) -> u32 {
     }
 }
 
-pub fn one_if(yes: bool) -> u32 {
-    if yes { 1 } else { 0 }
-}
-
 pub fn refused(r: Refusal) -> [u32; 8] {
     [r.number, number_of(r.place), 0, 0, 0, 0, 0, 0]
 }
 
 fn joined(j: Joined) -> [u32; 8] {
-    let why = j.why;
     [
         0,
         0,
         j.iterations,
-        one_if(j.converged),
+        u32::from(j.converged),
         j.accepted,
         j.rejected,
         j.failed,
-        stop_of(why),
+        stop_of(j.why),
     ]
 }
 
 fn stale(out: &[f64]) -> bool {
-    let mut i = 0usize;
-    while i < out.len() {
-        if !bytes::same64(out[i], STALE) {
-            return false;
-        }
-        i += 1;
-    }
-    true
+    out.iter().all(|x| x.is_same(STALE))
 }
 
 // Whether the record has this answer from `at` on. Where a run is refused the output stays as it was found.
-fn same_answer(a: Answer, out: &[f64], b: &[u8], at: usize) -> bool
+fn same_answer(a: Result<Joined, Refusal>, out: &[f64], b: &[u8], at: usize) -> bool
     requires { at ≤ 65608 }
 {
     match a {
-        Answer::Refused(r) => {
-            let eight = refused(r);
-            bytes::same_u32s(&eight, b, at) & stale(out)
-        }
-        Answer::Joined(j) => {
-            let eight = joined(j);
-            let costs = [j.first_cost, j.last_cost];
-            bytes::same_u32s(&eight, b, at)
-                & (bytes::same_f32s(&costs, b, at + 32) & bytes::same_f64s(out, b, at + 40))
+        Err(r) => bytes::same(&refused(r), b, at) && stale(out),
+        Ok(j) => {
+            bytes::same(&joined(j), b, at)
+                && bytes::same(&[j.first_cost, j.last_cost], b, at + 32)
+                && bytes::same(out, b, at + 40)
         }
     }
 }
@@ -85,8 +70,6 @@ pub fn same_run(b: &[u8], poses: &[f64], ends: &[u32], edges: &[f32], fixed: &[u
     let mut work32 = [0.0f32; 262144];
     let mut work64 = [0.0f64; 6144];
     let mut out = [STALE; 2048];
-    let w32 = &mut work32[..n32];
-    let w64 = &mut work64[..n64];
     let new = &mut out[..n];
     let a = sparse_pgo::sparse_pose_graph_optimize(
         inputs::manifold_of(b),
@@ -95,8 +78,8 @@ pub fn same_run(b: &[u8], poses: &[f64], ends: &[u32], edges: &[f32], fixed: &[u
         edges,
         fixed,
         inputs::recorded_settings(b),
-        w32,
-        w64,
+        &mut work32[..n32],
+        &mut work64[..n64],
         new,
     );
     same_answer(a, new, b, l.end)
@@ -112,7 +95,6 @@ fn poses_size(l: Lists, number: u32) -> usize
 
 pub fn is_whole(b: &[u8]) -> bool {
     let l = inputs::lists_of(b);
-    let end = l.end;
-    let poses = poses_size(l, bytes::u32_at(b, end, 0));
-    inputs::has_room(b) & (b.len() == end + 40 + poses)
+    let poses = poses_size(l, u32::read(b, l.end, 0));
+    inputs::has_room(b) && b.len() == l.end + 40 + poses
 }

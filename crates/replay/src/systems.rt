@@ -1,20 +1,20 @@
 // An assembly alone and a solve alone again, beside what the record has.
 ghost use Rattle.std.specs.Prelude.{◌≤◌};
 
+use crate::bytes::Recorded;
 use crate::{bytes, inputs};
-use assembly::Assembled;
-use checks::Checked;
+use assembly::AssemblyError;
 use rows::Room;
-use solve::Solved;
+use solve::SolveError;
 
 // ---- assembly
 
 // The refusal's number, or 0.
-fn assembled(a: Assembled) -> u32 {
+fn assembled(a: Result<(), AssemblyError>) -> u32 {
     match a {
-        Assembled::Done => 0,
-        Assembled::Bad { edge: _, why: _ } => 21,
-        Assembled::Short => 14,
+        Ok(()) => 0,
+        Err(AssemblyError::BadEdge { edge: _, why: _ }) => 21,
+        Err(AssemblyError::Short) => 14,
     }
 }
 
@@ -33,21 +33,15 @@ pub fn same_assembly(b: &[u8], poses: &[f64], ends: &[u32], edges: &[f32], fixed
     let answer = checks.answer;
     let blocks = checks.blocks;
     match answer {
-        Checked::Turned(r) => r.number == bytes::u32_at(b, end, 0),
-        Checked::Fit(c) => {
+        Err(r) => r.number == u32::read(b, end, 0),
+        Ok(c) => {
             let mut work = [0.0f32; 4096];
             let w32 = &mut work[..w];
             let unit = retraction::unit_manifold(m);
             let number = assembled(assembly::build_normal_system_with_mapping(
                 w32, unit, poses, ends, edges, &blocks, c.free,
             ));
-            if number != bytes::u32_at(b, end, 0) {
-                return false;
-            }
-            if number != 0 {
-                return true;
-            }
-            bytes::same_f32s(w32, b, end + 8)
+            number == u32::read(b, end, 0) && (number != 0 || bytes::same(w32, b, end + 8))
         }
     }
 }
@@ -55,7 +49,7 @@ pub fn same_assembly(b: &[u8], poses: &[f64], ends: &[u32], edges: &[f32], fixed
 pub fn is_whole_assembly(b: &[u8]) -> bool {
     let l = inputs::lists_of(b);
     let w = bytes::count_at(b, l.end, 1, 4096);
-    inputs::has_room(b) & (b.len() == l.end + 8 + w * 4)
+    inputs::has_room(b) && b.len() == l.end + 8 + w * 4
 }
 
 // ---- solve
@@ -77,19 +71,20 @@ pub fn solve_size(b: &[u8]) -> usize
     12 + need(b) * 8
 }
 
-fn status_of(s: Solved) -> u32 {
+// The number that records have.
+fn status_of(s: Result<(), SolveError>) -> u32 {
     match s {
-        Solved::Step => 0,
-        Solved::Failed => 1,
-        Solved::Short => 2,
+        Ok(()) => 0,
+        Err(SolveError::Failed) => 1,
+        Err(SolveError::Short) => 2,
     }
 }
 
 pub fn same_solve(b: &[u8]) -> bool {
     let n = bytes::count_at(b, 0, 0, UNKNOWNS);
     let w = need(b);
-    let mut work = bytes::f32s(b, 8);
+    let mut work: [f32; 4288] = bytes::list(b, 8);
     let w32 = &mut work[..w];
-    let status = status_of(solve::solve_damped(w32, n, bytes::f32_at(b, 4, 0)));
-    (status == bytes::u32_at(b, 8 + w * 4, 0)) & bytes::same_f32s(w32, b, 12 + w * 4)
+    let status = status_of(solve::solve_damped(w32, n, f32::read(b, 4, 0)));
+    status == u32::read(b, 8 + w * 4, 0) && bytes::same(w32, b, 12 + w * 4)
 }

@@ -6,18 +6,10 @@ ghost use Rattle.residual.specs.Residuals.{weighted_vec, weighted, six_if_finite
 ghost use Rattle.residual.specs.EdgeParts.{undone_of, error_quat, carried, residual_in, tied, linked_of, six_in};
 ghost use Rattle.residual.specs.EdgeParts.{hinge_by, hinge_of, hinges_of, between_of, residuals_at};
 
-use exp_log::{LogTurn, Twist, WideTwist};
+use exp_log::{Both, LogTurn, Twist};
 use graph::Edge;
 use numbers::Failure;
-use pose_conversion::Converted;
-use rotations::{Mat3, Pose, Quat, Rigid, Vec3, Vec3F32};
-
-// Translation, then rotation; or why they can't be had.
-#[derive(Clone, Copy)]
-pub enum Residual {
-    Six(Twist),
-    Failed(Failure),
-}
+use rotations::{Mat3, Pose, Quat, Transform, Vec3};
 
 // The end of an edge that a Jacobian is of.
 #[derive(Clone, Copy)]
@@ -29,11 +21,11 @@ pub enum EdgeEndpoint {
 // An edge whose ends and measurement could be had: a⁻¹, b, measured⁻¹ and the weight, with the matrices of b and of measured⁻¹.
 #[derive(Clone, Copy)]
 pub struct Link {
-    pub back: Rigid,
-    pub to: Rigid,
-    pub to_matrix: Mat3,
-    pub undone: Rigid,
-    pub undone_matrix: Mat3,
+    pub back: Transform<f64>,
+    pub to: Transform<f64>,
+    pub to_matrix: Mat3<f64>,
+    pub undone: Transform<f64>,
+    pub undone_matrix: Mat3<f64>,
     pub weight: f32,
 }
 
@@ -41,50 +33,30 @@ pub struct Link {
 // ω and D of the error's log, and the residual's rotation.
 #[derive(Clone, Copy)]
 pub struct Hinge {
-    pub matrix: Mat3,
+    pub matrix: Mat3<f64>,
     pub log: LogTurn,
-    pub rotation: Vec3F32,
+    pub rotation: Vec3<f32>,
 }
 
-// Of an end's two probes along an axis.
+// An edge by its parts, and its residual: translation, then rotation.
 #[derive(Clone, Copy)]
-pub struct Hinges {
-    pub ahead: Hinge,
-    pub behind: Hinge,
-}
-
-#[derive(Clone, Copy)]
-pub struct BothResiduals {
-    pub ahead: Residual,
-    pub behind: Residual,
-}
-
-// Two translations, each on its way through the same steps.
-#[derive(Clone, Copy)]
-struct Sides {
-    ahead: Vec3,
-    behind: Vec3,
-}
-
-// An edge by its parts, and its residual; or why they can't be had.
-#[derive(Clone, Copy)]
-pub enum Linked {
-    By { link: Link, six: Twist },
-    Bad(Failure),
+pub struct Linked {
+    pub link: Link,
+    pub six: Twist<f32>,
 }
 
 // Narrowed, then weighted in f32.
-fn weigh_vec(w: f32, v: Vec3) -> Vec3F32
+fn weigh_vec(w: f32, v: Vec3<f64>) -> Vec3<f32>
     ensures { result ≡ weighted_vec w v }
 {
-    Vec3F32 {
+    Vec3 {
         x: w * rounding::narrow(v.x),
         y: w * rounding::narrow(v.y),
         z: w * rounding::narrow(v.z),
     }
 }
 
-fn weigh(w: f32, d: WideTwist) -> Twist
+fn weigh(w: f32, d: Twist<f64>) -> Twist<f32>
     ensures { result ≡ weighted w d }
 {
     Twist {
@@ -93,31 +65,30 @@ fn weigh(w: f32, d: WideTwist) -> Twist
     }
 }
 
-pub fn six_if_finite(d: Twist) -> Residual
+pub fn six_if_finite(d: Twist<f32>) -> Result<Twist<f32>, Failure>
     ensures { result ≡ six_if_finite d }
 {
     if pose_conversion::vec3_f32_is_finite(d.t) & pose_conversion::vec3_f32_is_finite(d.r) {
-        Residual::Six(d)
+        Ok(d)
     } else {
-        Residual::Failed(Failure::Numerical)
+        Err(Failure::Numerical)
     }
 }
 
 // measured⁻¹, where the weight is finite and what was measured is valid.
-fn undone_of(edge: Edge) -> Converted
+fn undone_of(edge: Edge) -> Result<Transform<f32>, Failure>
     ensures { result ≡ undone_of edge }
 {
-    if !numbers::is_finite32(edge.weight) {
-        return Converted::Bad(Failure::Numerical);
+    let finite = edge.weight.is_finite();
+    if !finite {
+        return Err(Failure::Numerical);
     }
-    match pose_conversion::valid_se3(edge.measured) {
-        Converted::Into(m) => Converted::Into(rotations::inverse_of(m)),
-        Converted::Bad(why) => Converted::Bad(why),
-    }
+    let measured = pose_conversion::valid_se3(edge.measured)?;
+    Ok(rotations::inverse_of(measured))
 }
 
 // The quaternion of measured⁻¹ · (b · a⁻¹).
-fn error_quat(undone: Quat, to: Quat, back: Quat) -> Quat
+fn error_quat(undone: Quat<f64>, to: Quat<f64>, back: Quat<f64>) -> Quat<f64>
     ensures { result ≡ error_quat undone to back }
 {
     let between = rotations::rounded_quat(rotations::quat_product(to, back));
@@ -125,14 +96,14 @@ fn error_quat(undone: Quat, to: Quat, back: Quat) -> Quat
 }
 
 // The translation of a product: v turned by the matrix of the first transform, whose translation is t.
-fn carry(m: Mat3, v: Vec3, t: Vec3) -> Vec3
+fn carry(m: Mat3<f64>, v: Vec3<f64>, t: Vec3<f64>) -> Vec3<f64>
     ensures { result ≡ carried m v t }
 {
     rotations::rounded_vec(rotations::sum_of(rotations::turn_vec(m, v), t))
 }
 
 // weight × log(measured⁻¹ · (b · a⁻¹))
-fn residual_of(l: Link) -> Residual
+fn residual_of(l: Link) -> Result<Twist<f32>, Failure>
     ensures { result ≡ residual_in l }
 {
     let log = exp_log::log_turn(error_quat(l.undone.q, l.to.q, l.back.q));
@@ -141,7 +112,7 @@ fn residual_of(l: Link) -> Residual
     six_if_finite(weigh(l.weight, d))
 }
 
-fn hinge_by(weight: f32, matrix: Mat3, log: LogTurn) -> Hinge
+fn hinge_by(weight: f32, matrix: Mat3<f64>, log: LogTurn) -> Hinge
     ensures { result ≡ hinge_by weight matrix log }
 {
     let w = log.w;
@@ -153,7 +124,7 @@ fn hinge_by(weight: f32, matrix: Mat3, log: LogTurn) -> Hinge
 }
 
 // Of the end whose quaternion is q.
-pub fn hinge_of(l: Link, end: EdgeEndpoint, q: Quat) -> Hinge
+pub fn hinge_of(l: Link, end: EdgeEndpoint, q: Quat<f64>) -> Hinge
     ensures { result ≡ hinge_of l end q }
 {
     let weight = l.weight;
@@ -171,7 +142,7 @@ pub fn hinge_of(l: Link, end: EdgeEndpoint, q: Quat) -> Hinge
 }
 
 // Of the end whose quaternion is p, and is q, a step of the one and a step of the other in turn.
-pub fn hinges_of(l: Link, end: EdgeEndpoint, p: Quat, q: Quat) -> Hinges
+pub fn hinges_of(l: Link, end: EdgeEndpoint, p: Quat<f64>, q: Quat<f64>) -> Both<Hinge>
     ensures { result ≡ hinges_of l end p q }
 {
     let weight = l.weight;
@@ -182,25 +153,31 @@ pub fn hinges_of(l: Link, end: EdgeEndpoint, p: Quat, q: Quat) -> Hinges
             let error = error_quat(l.undone.q, l.to.q, rotations::rounded_quat(c));
             let other = error_quat(l.undone.q, l.to.q, rotations::rounded_quat(d));
             let logs = exp_log::log_turns(error, other);
-            Hinges {
-                ahead: hinge_by(weight, rotations::matrix_of(c), logs.first),
-                behind: hinge_by(weight, rotations::matrix_of(d), logs.second),
+            Both {
+                ahead: hinge_by(weight, rotations::matrix_of(c), logs.ahead),
+                behind: hinge_by(weight, rotations::matrix_of(d), logs.behind),
             }
         }
         EdgeEndpoint::B => {
             let error = error_quat(l.undone.q, p, l.back.q);
             let other = error_quat(l.undone.q, q, l.back.q);
             let logs = exp_log::log_turns(error, other);
-            Hinges {
-                ahead: hinge_by(weight, rotations::matrix_of(p), logs.first),
-                behind: hinge_by(weight, rotations::matrix_of(q), logs.second),
+            Both {
+                ahead: hinge_by(weight, rotations::matrix_of(p), logs.ahead),
+                behind: hinge_by(weight, rotations::matrix_of(q), logs.behind),
             }
         }
     }
 }
 
 // The translations of b · a⁻¹ where the end is at the translations p and q.
-fn between_of(l: Link, end: EdgeEndpoint, h: Hinges, p: Vec3, q: Vec3) -> Sides
+fn between_of(
+    l: Link,
+    end: EdgeEndpoint,
+    h: Both<Hinge>,
+    p: Vec3<f64>,
+    q: Vec3<f64>,
+) -> Both<Vec3<f64>>
     ensures { result ≡ between_of l end h p q }
 {
     match end {
@@ -209,12 +186,12 @@ fn between_of(l: Link, end: EdgeEndpoint, h: Hinges, p: Vec3, q: Vec3) -> Sides
             let b = rotations::negated(rotations::turn_vec(h.behind.matrix, q));
             let a = rotations::rounded_vec(a);
             let b = rotations::rounded_vec(b);
-            Sides {
+            Both {
                 ahead: carry(l.to_matrix, a, l.to.t),
                 behind: carry(l.to_matrix, b, l.to.t),
             }
         }
-        EdgeEndpoint::B => Sides {
+        EdgeEndpoint::B => Both {
             ahead: carry(h.ahead.matrix, l.back.t, p),
             behind: carry(h.behind.matrix, l.back.t, q),
         },
@@ -222,7 +199,13 @@ fn between_of(l: Link, end: EdgeEndpoint, h: Hinges, p: Vec3, q: Vec3) -> Sides
 }
 
 // The residuals with the end at the translations p and q, a step of the one and a step of the other in turn.
-pub fn residuals_at(l: Link, end: EdgeEndpoint, h: Hinges, p: Vec3, q: Vec3) -> BothResiduals
+pub fn residuals_at(
+    l: Link,
+    end: EdgeEndpoint,
+    h: Both<Hinge>,
+    p: Vec3<f64>,
+    q: Vec3<f64>,
+) -> Both<Result<Twist<f32>, Failure>>
     ensures { result ≡ residuals_at l end h p q }
 {
     let between = between_of(l, end, h, p, q);
@@ -234,37 +217,30 @@ pub fn residuals_at(l: Link, end: EdgeEndpoint, h: Hinges, p: Vec3, q: Vec3) -> 
     let u = weigh_vec(l.weight, e.t);
     let r = h.ahead.rotation;
     let s = h.behind.rotation;
-    BothResiduals {
+    Both {
         ahead: six_if_finite(Twist { t, r }),
         behind: six_if_finite(Twist { t: u, r: s }),
     }
 }
 
-fn tie(link: Link) -> Linked
+fn tie(link: Link) -> Result<Linked, Failure>
     ensures { result ≡ tied link }
 {
-    match residual_of(link) {
-        Residual::Six(six) => Linked::By { link, six },
-        Residual::Failed(why) => Linked::Bad(why),
-    }
+    let six = residual_of(link)?;
+    Ok(Linked { link, six })
 }
 
 // An edge from a to b with its residual. The weight, what was measured, b and a are asked in this order.
-pub fn linked_of(a: Converted, b: Converted, edge: Edge) -> Linked
+pub fn linked_of(
+    a: Result<Transform<f32>, Failure>,
+    b: Result<Transform<f32>, Failure>,
+    edge: Edge,
+) -> Result<Linked, Failure>
     ensures { result ≡ linked_of a b edge }
 {
-    let undone = match undone_of(edge) {
-        Converted::Into(t) => t,
-        Converted::Bad(why) => return Linked::Bad(why),
-    };
-    let to = match b {
-        Converted::Into(t) => t,
-        Converted::Bad(why) => return Linked::Bad(why),
-    };
-    let from = match a {
-        Converted::Into(t) => t,
-        Converted::Bad(why) => return Linked::Bad(why),
-    };
+    let undone = undone_of(edge)?;
+    let to = b?;
+    let from = a?;
     let b = rotations::widened(to);
     let u = rotations::widened(undone);
     tie(Link {
@@ -277,17 +253,14 @@ pub fn linked_of(a: Converted, b: Converted, edge: Edge) -> Linked
     })
 }
 
-pub fn six_in(x: Linked) -> Residual
+pub fn six_in(x: Result<Linked, Failure>) -> Result<Twist<f32>, Failure>
     ensures { result ≡ six_in x }
 {
-    match x {
-        Linked::By { link: _, six } => Residual::Six(six),
-        Linked::Bad(why) => Residual::Failed(why),
-    }
+    Ok(x?.six)
 }
 
 // The residual of an edge from a to b.
-pub fn weighted_relative_residual(a: Pose, b: Pose, edge: Edge) -> Residual
+pub fn weighted_relative_residual(a: Pose, b: Pose, edge: Edge) -> Result<Twist<f32>, Failure>
     ensures { result ≡ residual_of a b edge }
 {
     let from = pose_conversion::checked_pose_to_se3(a);
@@ -296,7 +269,7 @@ pub fn weighted_relative_residual(a: Pose, b: Pose, edge: Edge) -> Residual
 }
 
 // The six numbers in order.
-pub fn six_of(d: Twist) -> [f32; 6]
+pub fn six_of(d: Twist<f32>) -> [f32; 6]
     ensures { result ≡ six_of d }
 {
     [d.t.x, d.t.y, d.t.z, d.r.x, d.r.y, d.r.z]

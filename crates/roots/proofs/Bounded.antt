@@ -7,7 +7,7 @@ use lib.Dec.{nleb→lt}
 use lib.Ieee.{Float, nan, inf, fin, Format, binary32, binary64, prec, emax, low, up, down, size, odd, units, round, sum, add, mul, lt, le, fits, of_bits}
 use lib.Ieee.Fits.{reach, down_pos, and_l, and_r, round_is}
 use lib.Ieee.Bits.{is_true}
-use lib.Ieee.Digits.{size-le, back}
+use lib.Ieee.Digits.{size-le}
 use lib.Ieee.Exact.{HasValue, odd_sign, units_val}
 use lib.Ieee.Nearest.{closest, closest_mono}
 use lib.Ieee.Order.{drop, kept, round_mono}

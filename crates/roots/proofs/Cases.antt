@@ -97,7 +97,16 @@ nan_same f = refl
 pub root_nan : (f : Format) (x : Float) → x ≡ nan → x ≡ rooted f x
 root_nan f x e = e ∙ nan_same f ∙ ap (rooted f) (sym e)
 
--- ---- the answers, by the tests of the bits that lead to them
+-- ---- the answers, by the tests of the number and of its bits that lead to them
+
+pub root_same_nan : (f : Format) (x : Float) → is_nan x ≡ true → x ≡ rooted f x
+unfolding is_nan
+root_same_nan f nan e = root_nan f nan refl
+root_same_nan f (inf s) e = absurd (true≢false (sym e))
+root_same_nan f (fin s m k) e = absurd (true≢false (sym e))
+
+pub no_nan_by : (x : Float) (r : Bool) → r ≡ is_nan x → r ≡ false → T (not (is_nan x))
+no_nan_by x r e h = subst (λ (b : Bool). T (not b)) (sym h ∙ e) tt
 
 -- `(0 < b) & (b < t)` is true
 pub in_range : (b t : ℕ) → (ltb 0 b && ltb b t) ≡ true → (0 < b) × (b < t)

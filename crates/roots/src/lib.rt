@@ -23,7 +23,7 @@ fn digit(r: Root, two: u64) -> Root
     let q = r.q * 2;
     let trial = q * 2 + 1;
     if rest < trial {
-        Root { q: q, rest: rest }
+        Root { q, rest }
     } else {
         Root {
             q: q + 1,
@@ -39,11 +39,9 @@ fn digits(m: u64) -> Root
 {
     let mut r = Root { q: 0, rest: 0 };
     let mut left = m;
-    let mut d = 0u64;
-    while d < 27 {
+    for d in 0..27u64 {
         r = digit(r, left >> 52);
         left = (left & 0xf_ffff_ffff_ffff) << 2;
-        d += 1;
     }
     r
 }
@@ -78,21 +76,15 @@ fn nearest_by_digits(m: u64) -> NearRoot
 // m - (g * g - g) is above 0 and at most 2 * g; wrapped, what is below 1 is a huge number, so that one comparison tells.
 fn tested(m: u64, g: u64) -> NearRoot
     requires { (m < 2 ^ 54) × (g ≤ 2 ^ 28) }
-    ensures { (result.n ≡ g) × (0 < result.over → NearestRoot m result.n × (result.n * result.n + result.over ≡ m + result.n)) × (NearestRoot m g → 0 < result.over) }
+    ensures { (result.n ≡ g) × (0 < result.over → NearestRoot m result.n × (result.n * result.n + result.over ≡ m + result.n))
+        × (NearestRoot m g → 0 < result.over) }
 {
-    let over = std::num::wrapping_sub_u64(m + g, g * g);
-    if std::num::wrapping_sub_u64(over, 1) < g * 2 {
-        NearRoot { n: g, over: over }
+    let over = (m + g).wrapping_sub(g * g);
+    if over.wrapping_sub(1) < g * 2 {
+        NearRoot { n: g, over }
     } else {
         NearRoot { n: g, over: 0 }
     }
-}
-
-// g - 1, or 0 where there is none.
-fn one_less(g: u64) -> u64
-    ensures { result ≡ g - 1 }
-{
-    if 0 < g { g - 1 } else { g }
 }
 
 // The whole number nearest to the root of m: the guess g where it passes the test, or one less, since a guess is seldom too
@@ -105,7 +97,7 @@ fn nearest_root(m: u64, g: u64) -> NearRoot
     if 0 < first.over {
         return first;
     }
-    let second = tested(m, one_less(g));
+    let second = tested(m, g.saturating_sub(1));
     if 0 < second.over {
         return second;
     }
@@ -154,10 +146,10 @@ fn guess(q: u64, odd: u64) -> u64
         f64::from_bits(x),
         f64::from_bits((x >> 1) + 0x1ff7_a3be_a91d_9b1b),
     );
-    if g != g {
+    if g.is_nan() {
         return 0;
     }
-    std::num::wrapping_add_u64(f64::to_bits(g), 0x20_0000_0000_0000) & 0x3f_ffff_ffff_ffff
+    g.to_bits().wrapping_add(0x20_0000_0000_0000) & 0x3f_ffff_ffff_ffff
 }
 
 // q * 2^a
@@ -172,14 +164,11 @@ fn lifted(t: u64, a: u64, w: u64) -> Scaled
     requires { (0 < t) × (t < 2 * 2 ^ w) × (w ≤ 52) × (w ≤ a) }
     ensures { (result.q * 2 ^ result.a ≡ t * 2 ^ a) × (2 ^ w ≤ result.q) × (result.q < 2 * 2 ^ w) × (result.a ≤ a) × (a ≤ result.a + w) }
 {
-    let least = 1u64 << w;
-    let mut q = t;
-    let mut i = 0u64;
-    while q < least {
-        q = q << 1;
-        i += 1;
+    let shift = w - u64::from(t.ilog2());
+    Scaled {
+        q: t << shift,
+        a: a - shift,
     }
-    Scaled { q: q, a: a - i }
 }
 
 // The number of the bits b, which is finite and above 0, in the format of w + 1 digits whose smallest value is 2^-least: as
@@ -251,19 +240,20 @@ fn sqrt32_bits(b: u64) -> u64
     (h.k << 23) + r.n
 }
 
-// The root of x, rounded once; a NaN below 0.
+// The root of x, rounded once; a NaN below 0. One generic function for both formats would need a trait of their own with the bits, the bounds and a ghost
+// format of each: more text than the function said twice.
 pub fn sqrt64(x: f64) -> f64
     ensures { result ≡ rooted binary64 x }
 {
-    if x != x {
+    if x.is_nan() {
         return x;
     }
-    let b: u64 = f64::to_bits(x);
+    let b = x.to_bits();
     if (0 < b) & (b < 0x7ff0_0000_0000_0000) {
         return f64::from_bits(sqrt64_bits(b));
     }
     if 0x8000_0000_0000_0000 < b {
-        return 0.0f64 / 0.0f64;
+        return f64::NAN;
     }
     x
 }
@@ -271,15 +261,15 @@ pub fn sqrt64(x: f64) -> f64
 pub fn sqrt32(x: f32) -> f32
     ensures { result ≡ rooted binary32 x }
 {
-    if x != x {
+    if x.is_nan() {
         return x;
     }
-    let b: u32 = f32::to_bits(x);
+    let b = x.to_bits();
     if (0 < b) & (b < 0x7f80_0000) {
         return f32::from_bits(sqrt32_bits(b as u64) as u32);
     }
     if 0x8000_0000 < b {
-        return 0.0f32 / 0.0f32;
+        return f32::NAN;
     }
     x
 }

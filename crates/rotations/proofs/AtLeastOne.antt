@@ -15,7 +15,7 @@ use lib.Ieee.Positive.{le→cross, above_of_le}
 use lib.Ieee.Scale.{finite}
 use Rattle.numbers.specs.Notation.{ratio, num, if_then}
 use Rattle.numbers.proofs.Order.{lt_or_eq}
-use Rattle.rotations.specs.declared.Mat3F32.{Mat3F32}
+use Rattle.rotations.specs.Formats.{Mat3F32}
 use Rattle.rotations.specs.FromMatrix.{by_rule, p_of}
 
 abbrev unit : Float

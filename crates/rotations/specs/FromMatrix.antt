@@ -3,8 +3,7 @@ use Rattle.std.specs.Prelude.{Float}
 use Rattle.std.specs.Float.Ieee.{le}
 use Rattle.numbers.specs.Notation.{◌⊞◌, ◌⊟◌, ◌⊠◌, ◌⧄◌, num, ratio, if_then}
 use Rattle.roots.specs.Roots.{root32}
-use Rattle.rotations.specs.declared.QuatF32.{QuatF32}
-use Rattle.rotations.specs.declared.Mat3F32.{Mat3F32}
+use Rattle.rotations.specs.Formats.{QuatF32, Mat3F32}
 
 -- (x, y, z, w) times 0.5/√p (C13)
 unfoldable pub halved_by : Float → Float → Float → Float → Float → QuatF32

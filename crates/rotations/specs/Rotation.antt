@@ -5,11 +5,7 @@ use Rattle.std.specs.Float.Ieee.{neg}
 use Rattle.numbers.specs.Notation.{◌⊕◌, ◌⊖◌, ◌⊗◌, ◌⊘◌, num}
 use Rattle.rounding.specs.Rounding.{narrowed}
 use Rattle.roots.specs.Roots.{root64}
-use Rattle.rotations.specs.declared.Vec3.{Vec3}
-use Rattle.rotations.specs.declared.Quat.{Quat}
-use Rattle.rotations.specs.declared.Mat3.{Mat3}
-use Rattle.rotations.specs.declared.Transform.{Transform}
-use Rattle.rotations.specs.declared.Rigid.{Rigid}
+use Rattle.rotations.specs.Formats.{Vec3, Quat, Mat3, Transform, Rigid}
 
 -- x, y and z as a vector
 abbrev pub vec : Float → Float → Float → Vec3

@@ -7,82 +7,53 @@ ghost use Rattle.rotations.specs.Rotation.{length_of, unit_vec};
 ghost use Rattle.rotations.specs.Rotation.{wide, finished, rounded_vec, rounded_quat, product, inverse};
 ghost use Rattle.rotations.specs.FromMatrix.{halved_by, quat_of_matrix};
 
+// Vectors, quaternions, matrices and transforms of numbers of either format: f64 while they are worked with, f32 as they are kept.
 #[derive(Clone, Copy)]
-pub struct Vec3 {
-    pub x: f64,
-    pub y: f64,
-    pub z: f64,
+pub struct Vec3<T> {
+    pub x: T,
+    pub y: T,
+    pub z: T,
 }
 
 #[derive(Clone, Copy)]
-pub struct Quat {
-    pub x: f64,
-    pub y: f64,
-    pub z: f64,
-    pub w: f64,
-}
-
-#[derive(Clone, Copy)]
-pub struct Vec3F32 {
-    pub x: f32,
-    pub y: f32,
-    pub z: f32,
-}
-
-#[derive(Clone, Copy)]
-pub struct QuatF32 {
-    pub x: f32,
-    pub y: f32,
-    pub z: f32,
-    pub w: f32,
+pub struct Quat<T> {
+    pub x: T,
+    pub y: T,
+    pub z: T,
+    pub w: T,
 }
 
 // By columns.
 #[derive(Clone, Copy)]
-pub struct Mat3 {
-    pub x: Vec3,
-    pub y: Vec3,
-    pub z: Vec3,
+pub struct Mat3<T> {
+    pub x: Vec3<T>,
+    pub y: Vec3<T>,
+    pub z: Vec3<T>,
 }
 
-// By columns, in f32.
+// The Rust's SE3F32, and the same in f64, before it is narrowed.
 #[derive(Clone, Copy)]
-pub struct Mat3F32 {
-    pub x: Vec3F32,
-    pub y: Vec3F32,
-    pub z: Vec3F32,
-}
-
-// The Rust's SE3F32.
-#[derive(Clone, Copy)]
-pub struct Transform {
-    pub q: QuatF32,
-    pub t: Vec3F32,
+pub struct Transform<T> {
+    pub q: Quat<T>,
+    pub t: Vec3<T>,
 }
 
 // The Rust's Pose3d: rotation columns x, y, z, then translation; twelve f64.
 #[derive(Clone, Copy)]
 pub struct Pose {
-    pub rotation: Mat3,
-    pub translation: Vec3,
-}
-
-// A transform in f64, before it is narrowed.
-#[derive(Clone, Copy)]
-pub struct Rigid {
-    pub q: Quat,
-    pub t: Vec3,
+    pub rotation: Mat3<f64>,
+    pub translation: Vec3<f64>,
 }
 
 // ---- vectors
 
-pub fn dot_of(a: Vec3, b: Vec3) -> f64
+pub fn dot_of(a: Vec3<f64>, b: Vec3<f64>) -> f64
     ensures { result ≡ dot a b }
 {
     a.x * b.x + a.y * b.y + a.z * b.z
 }
 
-pub fn cross_of(a: Vec3, b: Vec3) -> Vec3
+pub fn cross_of(a: Vec3<f64>, b: Vec3<f64>) -> Vec3<f64>
     ensures { result ≡ cross a b }
 {
     Vec3 {
@@ -92,7 +63,7 @@ pub fn cross_of(a: Vec3, b: Vec3) -> Vec3
     }
 }
 
-pub fn sum_of(a: Vec3, b: Vec3) -> Vec3
+pub fn sum_of(a: Vec3<f64>, b: Vec3<f64>) -> Vec3<f64>
     ensures { result ≡ plus a b }
 {
     Vec3 {
@@ -102,7 +73,7 @@ pub fn sum_of(a: Vec3, b: Vec3) -> Vec3
     }
 }
 
-pub fn negated(a: Vec3) -> Vec3
+pub fn negated(a: Vec3<f64>) -> Vec3<f64>
     ensures { result ≡ minus a }
 {
     Vec3 {
@@ -112,7 +83,7 @@ pub fn negated(a: Vec3) -> Vec3
     }
 }
 
-pub fn scaled(k: f64, a: Vec3) -> Vec3
+pub fn scaled(k: f64, a: Vec3<f64>) -> Vec3<f64>
     ensures { result ≡ times k a }
 {
     Vec3 {
@@ -122,7 +93,7 @@ pub fn scaled(k: f64, a: Vec3) -> Vec3
     }
 }
 
-pub fn vec_over(a: Vec3, k: f64) -> Vec3
+pub fn vec_over(a: Vec3<f64>, k: f64) -> Vec3<f64>
     ensures { result ≡ over a k }
 {
     Vec3 {
@@ -132,14 +103,14 @@ pub fn vec_over(a: Vec3, k: f64) -> Vec3
     }
 }
 
-pub fn length_of(a: Vec3) -> f64
+pub fn length_of(a: Vec3<f64>) -> f64
     ensures { result ≡ length_of a }
 {
     roots::sqrt64(dot_of(a, a))
 }
 
 // Divided by its length.
-pub fn unit_vec(a: Vec3) -> Vec3
+pub fn unit_vec(a: Vec3<f64>) -> Vec3<f64>
     ensures { result ≡ unit_vec a }
 {
     vec_over(a, length_of(a))
@@ -147,7 +118,7 @@ pub fn unit_vec(a: Vec3) -> Vec3
 
 // ---- matrices and quaternions
 
-pub fn matrix_of(q: Quat) -> Mat3
+pub fn matrix_of(q: Quat<f64>) -> Mat3<f64>
     ensures { result ≡ matrix_of q }
 {
     Mat3 {
@@ -170,7 +141,7 @@ pub fn matrix_of(q: Quat) -> Mat3
 }
 
 // A vector turned by a matrix.
-pub fn turn_vec(m: Mat3, v: Vec3) -> Vec3
+pub fn turn_vec(m: Mat3<f64>, v: Vec3<f64>) -> Vec3<f64>
     ensures { result ≡ turned m v }
 {
     Vec3 {
@@ -181,7 +152,7 @@ pub fn turn_vec(m: Mat3, v: Vec3) -> Vec3
 }
 
 // Its rows as columns.
-pub fn transposed(m: Mat3) -> Mat3
+pub fn transposed(m: Mat3<f64>) -> Mat3<f64>
     ensures { result ≡ transpose m }
 {
     Mat3 {
@@ -203,7 +174,7 @@ pub fn transposed(m: Mat3) -> Mat3
     }
 }
 
-pub fn mat_product(a: Mat3, b: Mat3) -> Mat3
+pub fn mat_product(a: Mat3<f64>, b: Mat3<f64>) -> Mat3<f64>
     ensures { result ≡ mat_product a b }
 {
     Mat3 {
@@ -213,7 +184,7 @@ pub fn mat_product(a: Mat3, b: Mat3) -> Mat3
     }
 }
 
-pub fn conjugate_of(q: Quat) -> Quat
+pub fn conjugate_of(q: Quat<f64>) -> Quat<f64>
     ensures { result ≡ conjugate q }
 {
     Quat {
@@ -224,7 +195,7 @@ pub fn conjugate_of(q: Quat) -> Quat
     }
 }
 
-pub fn quat_product(a: Quat, b: Quat) -> Quat
+pub fn quat_product(a: Quat<f64>, b: Quat<f64>) -> Quat<f64>
     ensures { result ≡ quat_product a b }
 {
     Quat {
@@ -238,36 +209,36 @@ pub fn quat_product(a: Quat, b: Quat) -> Quat
 // ---- transforms
 
 // A transform's numbers in f64.
-pub fn widened(a: Transform) -> Rigid
+pub fn widened(a: Transform<f32>) -> Transform<f64>
     ensures { result ≡ wide a }
 {
-    Rigid {
+    Transform {
         q: Quat {
-            x: numbers::widen(a.q.x),
-            y: numbers::widen(a.q.y),
-            z: numbers::widen(a.q.z),
-            w: numbers::widen(a.q.w),
+            x: f64::from(a.q.x),
+            y: f64::from(a.q.y),
+            z: f64::from(a.q.z),
+            w: f64::from(a.q.w),
         },
         t: Vec3 {
-            x: numbers::widen(a.t.x),
-            y: numbers::widen(a.t.y),
-            z: numbers::widen(a.t.z),
+            x: f64::from(a.t.x),
+            y: f64::from(a.t.y),
+            z: f64::from(a.t.z),
         },
     }
 }
 
 // And back, each number narrowed once.
-pub fn finish(a: Rigid) -> Transform
+pub fn finish(a: Transform<f64>) -> Transform<f32>
     ensures { result ≡ finished a }
 {
     Transform {
-        q: QuatF32 {
+        q: Quat {
             x: rounding::narrow(a.q.x),
             y: rounding::narrow(a.q.y),
             z: rounding::narrow(a.q.z),
             w: rounding::narrow(a.q.w),
         },
-        t: Vec3F32 {
+        t: Vec3 {
             x: rounding::narrow(a.t.x),
             y: rounding::narrow(a.t.y),
             z: rounding::narrow(a.t.z),
@@ -276,7 +247,7 @@ pub fn finish(a: Rigid) -> Transform
 }
 
 // Each number narrowed, and an f64 again.
-pub fn rounded_vec(v: Vec3) -> Vec3
+pub fn rounded_vec(v: Vec3<f64>) -> Vec3<f64>
     ensures { result ≡ rounded_vec v }
 {
     Vec3 {
@@ -286,7 +257,7 @@ pub fn rounded_vec(v: Vec3) -> Vec3
     }
 }
 
-pub fn rounded_quat(q: Quat) -> Quat
+pub fn rounded_quat(q: Quat<f64>) -> Quat<f64>
     ensures { result ≡ rounded_quat q }
 {
     Quat {
@@ -297,25 +268,25 @@ pub fn rounded_quat(q: Quat) -> Quat
     }
 }
 
-pub fn product_of(a: Transform, b: Transform) -> Transform
+pub fn product_of(a: Transform<f32>, b: Transform<f32>) -> Transform<f32>
     ensures { result ≡ product a b }
 {
     let u = widened(a);
     let v = widened(b);
     let m = matrix_of(u.q);
-    finish(Rigid {
+    finish(Transform {
         q: quat_product(u.q, v.q),
         t: sum_of(turn_vec(m, v.t), u.t),
     })
 }
 
-pub fn inverse_of(a: Transform) -> Transform
+pub fn inverse_of(a: Transform<f32>) -> Transform<f32>
     ensures { result ≡ inverse a }
 {
     let u = widened(a);
     let q = conjugate_of(u.q);
     let m = matrix_of(q);
-    finish(Rigid {
+    finish(Transform {
         q,
         t: negated(turn_vec(m, u.t)),
     })
@@ -324,11 +295,11 @@ pub fn inverse_of(a: Transform) -> Transform
 // ---- quaternion from matrix
 
 // (x, y, z, w) times 0.5/√p.
-fn halved_by(p: f32, x: f32, y: f32, z: f32, w: f32) -> QuatF32
+fn halved_by(p: f32, x: f32, y: f32, z: f32, w: f32) -> Quat<f32>
     ensures { result ≡ halved_by p x y z w }
 {
     let k = 0.5 / roots::sqrt32(p);
-    QuatF32 {
+    Quat {
         x: x * k,
         y: y * k,
         z: z * k,
@@ -336,7 +307,7 @@ fn halved_by(p: f32, x: f32, y: f32, z: f32, w: f32) -> QuatF32
     }
 }
 
-pub fn quat_of_matrix(m: Mat3F32) -> QuatF32
+pub fn quat_of_matrix(m: Mat3<f32>) -> Quat<f32>
     ensures { result ≡ quat_of_matrix m }
 {
     if m.z.z <= 0.0 {

@@ -57,7 +57,7 @@ pub fn narrow(x: f64) -> f32
 // How many sizes there are from 2^-126 up to where an infinity is nearest, counted in last places of an f64.
 const IN_PLACE: u64 = 0x0fdf_ffff_f000_0000;
 
-// The f32 nearest to x, as an f64: what `widen` makes of what `narrow` makes of x; rounded in place where x is at least 2^-126 in size and no infinity is
+// The f32 nearest to x, as an f64: what `narrow` makes of x, widened; rounded in place where x is at least 2^-126 in size and no infinity is
 // nearest.
 pub fn round32(x: f64) -> f64
     ensures { result ≡ rounded binary32 x }
@@ -71,5 +71,5 @@ pub fn round32(x: f64) -> f64
     if std::num::wrapping_sub_u64(mag, 0x3810_0000_0000_0000) < IN_PLACE {
         return f64::from_bits((b + 0x0fff_ffff + ((b >> 29) & 1)) & 0xffff_ffff_e000_0000);
     }
-    numbers::widen(narrow(x))
+    f64::from(narrow(x))
 }

@@ -2,22 +2,10 @@
 use crate::graphs;
 use rotations::Pose;
 
-// Twelve numbers a keyframe, and twelve a loop.
 #[derive(Clone, Copy)]
 pub struct Scan {
-    pub poses: [f64; 48],
-    pub loop_poses: [f64; 48],
-}
-
-fn numbers_of(poses: [Pose; 4]) -> [f64; 48] {
-    let mut numbers = [0.0f64; 48];
-    let mut i = 0usize;
-    while i < 48 {
-        let p = poses[i / 12];
-        numbers[i] = graphs::number_at(p, i);
-        i += 1;
-    }
-    numbers
+    pub poses: [[f64; 12]; 4],
+    pub loop_poses: [[f64; 12]; 4],
 }
 
 // Loops from the first keyframe to the third, from the second to the fourth, and two from the first to the fourth. They measured true steps, but for the last,
@@ -27,7 +15,7 @@ pub fn drifted(step: Pose, truth: Pose, last: Pose) -> Scan {
     let two = graphs::after(truth, truth);
     let three = graphs::after(last, graphs::after(last, last));
     Scan {
-        poses: numbers_of([graphs::ahead(0.0), step, third, graphs::after(step, third)]),
-        loop_poses: numbers_of([two, two, graphs::after(truth, two), three]),
+        poses: [graphs::ahead(0.0), step, third, graphs::after(step, third)].map(graph::numbers_of),
+        loop_poses: [two, two, graphs::after(truth, two), three].map(graph::numbers_of),
     }
 }

@@ -1,132 +1,107 @@
-// A run's answer, or a scan's, as one line for a person.
+// A run's answer, or a scan's, as one line for a person. A write that fails is let pass.
 use decisions::Why;
-use line::Line;
 use numbers::Refusal;
-use pose_graph::{Closed, PgoResult};
-use sparse_pgo::{Answer, Joined};
-use std::io::Write;
+use pose_graph::PgoResult;
+use sparse_pgo::Joined;
+use std::fmt;
+use std::io::{self, Write};
 
-fn with_count(l: Line, text: &[u8], n: u32) -> Line {
-    line::with_decimal(line::with_text(l, text), n as u64)
-}
+// With six digits after the point.
+#[derive(Clone, Copy)]
+struct Cost(f32);
 
-// x in millionths, to the nearest; the largest u64 where that is no u64.
-fn millionths(x: f32) -> u64 {
-    let y = numbers::widen(x) * 1000000.0 + 0.5;
-    if y > -1.0 {
-        if y < 18446744073709551616.0 {
-            return std::num::truncating_f64_to_u64(y);
+impl fmt::Display for Cost {
+    fn fmt<W: fmt::Write>(&self, f: &mut fmt::Formatter<W>) -> fmt::Result {
+        // to the nearest
+        let millionths = f64::from(self.0) * 1e6 + 0.5;
+        if -1.0 < millionths && millionths < 1e12 {
+            let n = std::num::saturating_f64_to_u64(millionths);
+            write!(f, "{}.{:06}", n / 1_000_000, n % 1_000_000)
+        } else {
+            f.write_str("large")
         }
     }
-    18446744073709551615
 }
 
-fn with_digit(l: Line, n: u64) -> Line {
-    line::with_decimal(l, n % 10)
+fn yes_no(yes: bool) -> &'static str {
+    if yes { "yes" } else { "no" }
 }
 
-fn with_six_digits(l: Line, n: u64) -> Line {
-    let l = with_digit(with_digit(l, n / 100000), n / 10000);
-    let l = with_digit(with_digit(l, n / 1000), n / 100);
-    with_digit(with_digit(l, n / 10), n)
-}
-
-// A cost with six digits after the point.
-fn with_cost(l: Line, x: f32) -> Line {
-    let n = millionths(x);
-    if 1000000000000 <= n {
-        return line::with_text(l, b"large");
-    }
-    let l = line::with_decimal(l, n / 1000000);
-    with_six_digits(line::with_text(l, b"."), n)
-}
-
-fn with_costs(l: Line, j: Joined) -> Line {
-    let l = with_cost(line::with_text(l, b"first cost "), j.first_cost);
-    with_cost(line::with_text(l, b", last cost "), j.last_cost)
-}
-
-fn with_events(l: Line, j: Joined) -> Line {
-    let l = with_count(l, b", iterations ", j.iterations);
-    let l = with_count(l, b" (A ", j.accepted);
-    let l = with_count(l, b", R ", j.rejected);
-    let l = with_count(l, b", F ", j.failed);
-    line::with_text(l, b")")
-}
-
-fn with_flag(l: Line, text: &[u8], yes: bool) -> Line {
-    let l = line::with_text(l, text);
-    if yes {
-        return line::with_text(l, b"yes");
-    }
-    line::with_text(l, b"no")
-}
-
-fn with_reason(l: Line, w: Why) -> Line {
-    let l = line::with_text(l, b", stopped by ");
-    match w {
-        Why::Budget => line::with_text(l, b"Budget"),
-        Why::Gradient => line::with_text(l, b"Gradient"),
-        Why::Step => line::with_text(l, b"Step"),
-        Why::Cost => line::with_text(l, b"Cost"),
-        Why::Damping => line::with_text(l, b"Damping"),
+// These names are this line's alone; elsewhere a reason is never printed.
+fn reason(why: Why) -> &'static str {
+    match why {
+        Why::Budget => "Budget",
+        Why::Gradient => "Gradient",
+        Why::Step => "Step",
+        Why::Cost => "Cost",
+        Why::Damping => "Damping",
     }
 }
 
-fn with_joined(l: Line, j: Joined) -> Line {
-    let why = j.why;
-    let l = with_events(with_costs(l, j), j);
-    with_reason(with_flag(l, b", converged ", j.converged), why)
+fn joined<W: Write>(out: &mut W, j: Joined) -> io::Result<()> {
+    write!(
+        out,
+        "first cost {}, last cost {}, iterations {} (A {}, R {}, F {}), converged {}, stopped by {}",
+        Cost(j.first_cost),
+        Cost(j.last_cost),
+        j.iterations,
+        j.accepted,
+        j.rejected,
+        j.failed,
+        yes_no(j.converged),
+        reason(j.why),
+    )
 }
 
-fn with_refused(l: Line, r: Refusal) -> Line {
-    let l = with_count(l, b"refused ", r.number);
-    line::with_decimal(line::with_text(l, b" at "), r.place as u64)
+fn refused<W: Write>(out: &mut W, r: Refusal) -> io::Result<()> {
+    write!(out, "refused {} at {}", r.number, r.place)
 }
 
-fn with_answer(l: Line, a: Answer) -> Line {
-    match a {
-        Answer::Joined(j) => with_joined(l, j),
-        Answer::Refused(r) => with_refused(l, r),
-    }
-}
-
-// What was measured before and after.
-fn with_change(l: Line, text: &[u8], before: f64, after: f64) -> Line {
-    let l = line::with_float(line::with_text(l, text), before);
-    line::with_float(line::with_text(l, b" to "), after)
+// What was measured before and after, as `line` writes floats: six digits, which no format of the library gives.
+fn change<W: Write>(out: &mut W, text: &str, before: f64, after: f64) -> io::Result<()> {
+    write!(out, "{text}")?;
+    line::say(out, line::with_float(line::empty(), before));
+    write!(out, " to ")?;
+    line::say(out, line::with_float(line::empty(), after));
+    Ok(())
 }
 
 // The measured cost is half the sum over all edges.
-fn with_result(l: Line, r: PgoResult) -> Line {
-    let run = r.run;
+fn result<W: Write>(out: &mut W, r: PgoResult) -> io::Result<()> {
     let m = r.measures;
-    let l = with_joined(l, run);
-    let l = with_change(l, b", measured cost ", m.initial_cost, m.final_cost);
-    let before = m.new_loop_residual_before;
-    let l = with_change(l, b", last edge ", before, m.new_loop_residual_after);
-    with_flag(l, b", usable ", r.usable)
+    joined(out, r.run)?;
+    change(out, ", measured cost ", m.initial_cost, m.final_cost)?;
+    change(
+        out,
+        ", last edge ",
+        m.new_loop_residual_before,
+        m.new_loop_residual_after,
+    )?;
+    write!(out, ", usable {}", yes_no(r.usable))
 }
 
-fn with_closed(l: Line, c: Closed) -> Line {
+fn run_line<W: Write>(out: &mut W, sample: &str, a: Result<Joined, Refusal>) -> io::Result<()> {
+    write!(out, "{sample}: ")?;
+    match a {
+        Ok(j) => joined(out, j),
+        Err(r) => refused(out, r),
+    }?;
+    writeln!(out)
+}
+
+fn scan_line<W: Write>(out: &mut W, sample: &str, c: Result<PgoResult, Refusal>) -> io::Result<()> {
+    write!(out, "{sample}: ")?;
     match c {
-        Closed::Ran(r) => with_result(l, r),
-        Closed::Refused(r) => with_refused(l, r),
-    }
+        Ok(r) => result(out, r),
+        Err(r) => refused(out, r),
+    }?;
+    writeln!(out)
 }
 
-fn named(sample: &[u8]) -> Line {
-    line::with_text(line::with_text(line::empty(), sample), b": ")
+pub fn answer<W: Write>(out: &mut W, sample: &str, a: Result<Joined, Refusal>) {
+    let _ = run_line(out, sample, a);
 }
 
-fn say<W: Write>(out: &mut W, l: Line) {
-    line::say(out, line::with_text(l, b"\n"));
-}
-
-pub fn answer<W: Write>(out: &mut W, sample: &[u8], a: Answer) {
-    say(out, with_answer(named(sample), a));
-}
-
-pub fn closed<W: Write>(out: &mut W, sample: &[u8], c: Closed) {
-    say(out, with_closed(named(sample), c));
+pub fn closed<W: Write>(out: &mut W, sample: &str, c: Result<PgoResult, Refusal>) {
+    let _ = scan_line(out, sample, c);
 }

@@ -1,5 +1,6 @@
 -- What the definitions of a scan mean, for every scan: an id's keyframe is the last that has it, and there is none exactly where no keyframe has it;
 -- the k-th edge of the built graph is the k-th of the scan. Assumes nothing.
+use Rattle.std.specs.Prelude.{None, Ok, Some}
 use mathlib.Core.Path.{◌≡◌, refl, sym, ap, ◌∙◌}
 use mathlib.Core.Logic.{⊎_elim}
 use mathlib.Core.Bool.{Bool, true, false, ◌||◌}
@@ -13,11 +14,9 @@ use lib.ListN.{length, get_or}
 use lib.Ieee.{Float, nan}
 use Rattle.numbers.specs.Notation.{if_then}
 use Rattle.numbers.specs.Refusals.{verdict}
-use Rattle.numbers.specs.declared.Verdict.TheVariants.{Fine}
 use Rattle.numbers.proofs.Reading.{row_fault, row_at}
 use Rattle.graph.specs.Lent.{edge_from, edge_at, end_a, end_b}
 use Rattle.graph.specs.declared.Edge.{Edge}
-use Rattle.scans.specs.declared.Node.TheVariants.{At, Absent}
 use Rattle.scans.specs.Scans.{Scan, node_below, node_of, edge_numbers, candidate_node, query_node, scan_edge, scan_ends, ends_to, edges_to}
 use Rattle.scans.specs.ScanRows.{scan_rows, is_absent, loop_faults}
 use Rattle.scans.proofs.Nodes.{below_here, below_past, ends_wide}
@@ -36,13 +35,13 @@ module _ (ids : List ℕ) (id : ℕ) where
   abbrev LastBelow : ℕ → ℕ → Type 0
   LastBelow n m = (n < m) × (get_or ids n 0 ≡ id) × ((j : ℕ) → n < j → j < m → get_or ids j 0 ≡ id → ⊥)
 
-  found_below : (n m : ℕ) → node_below ids id m ≡ At n → LastBelow n m
+  found_below : (n m : ℕ) → node_below ids id m ≡ Some n → LastBelow n m
   unfolding node_below if_then
   found_below n zero e = let z : ◌≡◌ {A = ℕ} 0 1 = cc in absurd (omega arith)
   found_below n (suc m) e = go (eqb (get_or ids m 0) id) (eqb-true (get_or ids m 0) id) (eqb-false (get_or ids m 0) id) (found_below n m) e
     where
-      go : (b : Bool) → (b ≡ true → get_or ids m 0 ≡ id) → (b ≡ false → get_or ids m 0 ≡ id → ⊥) → (node_below ids id m ≡ At n → LastBelow n m)
-          → if_then b (At m) (node_below ids id m) ≡ At n → LastBelow n (suc m)
+      go : (b : Bool) → (b ≡ true → get_or ids m 0 ≡ id) → (b ≡ false → get_or ids m 0 ≡ id → ⊥) → (node_below ids id m ≡ Some n → LastBelow n m)
+          → if_then b (Some m) (node_below ids id m) ≡ Some n → LastBelow n (suc m)
       go true y x w e =
           let q : m ≡ n = cc in
           (omega arith, ap (λ (i : ℕ). get_or ids i 0) (sym q) ∙ y refl, λ j a b h. absurd (omega arith))
@@ -56,7 +55,7 @@ module _ (ids : List ℕ) (id : ℕ) where
           (eq-or-lt_of_le (le_of_suc-le-suc b)) in
           (omega arith, f.1, later)
 
-  last_below : (n m : ℕ) → n < m → get_or ids n 0 ≡ id → ((j : ℕ) → n < j → j < m → get_or ids j 0 ≡ id → ⊥) → node_below ids id m ≡ At n
+  last_below : (n m : ℕ) → n < m → get_or ids n 0 ≡ id → ((j : ℕ) → n < j → j < m → get_or ids j 0 ≡ id → ⊥) → node_below ids id m ≡ Some n
   last_below n zero l e h = absurd (not-suc-le-zero l)
   last_below n (suc m) l e h =
       ⊎_elim
@@ -64,31 +63,31 @@ module _ (ids : List ℕ) (id : ℕ) where
       (λ (i : n < m). below_past ids id m (h m i (omega arith)) ∙ last_below n m i e (λ j a b. h j a (omega arith)))
       (eq-or-lt_of_le (le_of_suc-le-suc l))
 
-  none_below : (m : ℕ) → ((j : ℕ) → j < m → get_or ids j 0 ≡ id → ⊥) → node_below ids id m ≡ Absent
+  none_below : (m : ℕ) → ((j : ℕ) → j < m → get_or ids j 0 ≡ id → ⊥) → node_below ids id m ≡ None
   unfolding node_below
   none_below zero h = refl
   none_below (suc m) h = below_past ids id m (h m (omega arith)) ∙ none_below m (λ j b. h j (omega arith))
 
-  below_none_of : (m : ℕ) → node_below ids id m ≡ Absent → (j : ℕ) → j < m → get_or ids j 0 ≡ id → ⊥
+  below_none_of : (m : ℕ) → node_below ids id m ≡ None → (j : ℕ) → j < m → get_or ids j 0 ≡ id → ⊥
   unfolding node_below if_then
   below_none_of zero e j l h = not-suc-le-zero l
   below_none_of (suc m) e j l h = go (eqb (get_or ids m 0) id) (eqb-false (get_or ids m 0) id) (λ p l. below_none_of m p j l h) e
     where
-      go : (b : Bool) → (b ≡ false → get_or ids m 0 ≡ id → ⊥) → (node_below ids id m ≡ Absent → j < m → ⊥) → if_then b (At m) (node_below ids id m) ≡ Absent → ⊥
+      go : (b : Bool) → (b ≡ false → get_or ids m 0 ≡ id → ⊥) → (node_below ids id m ≡ None → j < m → ⊥) → if_then b (Some m) (node_below ids id m) ≡ None → ⊥
       go true x w e = let z : ◌≡◌ {A = ℕ} 0 1 = cc in omega arith
       go false x w e =
           ⊎_elim (λ (i : j ≡ m). x refl (ap (λ (i : ℕ). get_or ids i 0) (sym i) ∙ h)) (λ (i : j < m). w e i) (eq-or-lt_of_le (le_of_suc-le-suc l))
 
-pub node_last : (ids : List ℕ) (id n : ℕ) → (node_of ids id ≡ At n → LastWith ids id n) × (LastWith ids id n → node_of ids id ≡ At n)
+pub node_last : (ids : List ℕ) (id n : ℕ) → (node_of ids id ≡ Some n → LastWith ids id n) × (LastWith ids id n → node_of ids id ≡ Some n)
 node_last ids id n = (
   λ e. let f = found_below ids id n (length ids) e in record { below = f.0; has = f.1; later = f.2 },
   λ h. last_below ids id n (length ids) h.below h.has h.later,
 )
 
-pub node_absent : (ids : List ℕ) (id : ℕ) → node_of ids id ≡ Absent → (m : ℕ) → m < length ids → get_or ids m 0 ≡ id → ⊥
+pub node_absent : (ids : List ℕ) (id : ℕ) → node_of ids id ≡ None → (m : ℕ) → m < length ids → get_or ids m 0 ≡ id → ⊥
 node_absent ids id e m q h = below_none_of ids id (length ids) e m q h
 
-pub absent_node : (ids : List ℕ) (id : ℕ) → ((m : ℕ) → m < length ids → get_or ids m 0 ≡ id → ⊥) → node_of ids id ≡ Absent
+pub absent_node : (ids : List ℕ) (id : ℕ) → ((m : ℕ) → m < length ids → get_or ids m 0 ≡ id → ⊥) → node_of ids id ≡ None
 absent_node ids id h = none_below ids id (length ids) h
 
 -- ---- edges: the first n, by number
@@ -121,11 +120,12 @@ module _ (s : Scan) (n : ℕ) where
 
 -- ---- past rows 33 and 34 every loop names two keyframes
 
-pub loops_named : (ids loops : List ℕ) (poses loop_poses original k : ℕ) → verdict (scan_rows ids poses loops loop_poses original) ≡ Fine → k < length loops / 2
+pub loops_named : (ids loops : List ℕ) (poses loop_poses original k : ℕ)
+    → verdict (scan_rows ids poses loops loop_poses original) ≡ Ok tt → k < length loops / 2
     → (is_absent (candidate_node ids loops k) ≡ false) × (is_absent (query_node ids loops k) ≡ false)
 loops_named ids loops poses loop_poses original k e h =
     neither (is_absent (candidate_node ids loops k)) (is_absent (query_node ids loops k))
-    (row_fault (loop_faults ids loops) (length loops / 2) 0 k (row_at Fine (scan_rows ids poses loops loop_poses original) 1 e) h)
+    (row_fault (loop_faults ids loops) (length loops / 2) 0 k (row_at (Ok tt) (scan_rows ids poses loops loop_poses original) 1 e) h)
   where
     neither : (a b : Bool) → (a || b) ≡ false → (a ≡ false) × (b ≡ false)
     neither false b e = (refl, e)

@@ -1,13 +1,12 @@
 -- A count by a quotient without a rest: so many numbers are m for each of n exactly where they divide by m into n. Assumes nothing.
-use mathlib.Core.Path.{◌≡◌, refl, sym, ap, ◌∙◌}
-use mathlib.Core.Bool.{Bool, true, false, not, ◌||◌, or_assoc}
-use Prim.Native.Nat.{ℕ, ◌*◌, ◌/◌, ◌%◌, ◌<◌, ◌≤◌}
+use mathlib.Core.Path.{◌≡◌, refl, sym, ap}
+use mathlib.Core.Bool.{Bool, true, false, not, ◌||◌}
+use Prim.Native.Nat.{ℕ, ◌*◌, ◌/◌, ◌%◌}
 use native.Mathlib.Omega.{arith}
-use borrow.Author.Tests.{eqb-true, eqb-false, eq-eqb, ne_eqb, lt-ltb, le-ltb}
+use borrow.Author.Tests.{eqb-true, eqb-false, eq-eqb, ne_eqb}
 use lib.Dec.{eqb}
 use lib.Ieee.{binary32, of_bits, of_fields, odd, round}
 use Rattle.numbers.specs.Notation.{num, ratio}
-use Rattle.scans.specs.ScanRows.{unfit_scan}
 
 -- two tests against one
 both : (a b : Bool) {t : Bool} → (a ≡ true → b ≡ true → t ≡ true) → (a ≡ false → t ≡ false) → (b ≡ false → t ≡ false) → (not a || not b) ≡ not t
@@ -28,38 +27,6 @@ by_six p n =
     (λ a b. let x : p % 6 ≡ 0 = eqb-true _ _ a in let y : p / 6 ≡ n = eqb-true _ _ b in eq-eqb p (6 * n) (omega arith))
     (λ a. ne_eqb p (6 * n) (λ e. eqb-false (p % 6) 0 a (omega arith)))
     (λ b. ne_eqb p (6 * n) (λ e. eqb-false (p / 6) n b (omega arith)))
-
--- ---- row 33, test by test
-module _ (ids poses loops loop_poses original : ℕ) where
-  pub few_keyframes : ids < 2 → true ≡ unfit_scan ids poses loops loop_poses original
-  unfolding unfit_scan
-  few_keyframes h = rw (lt-ltb ids 2 h)
-
-  module _ (h : 2 ≤ ids) where
-    pub unfit_poses_lem : (not (eqb (poses % 12) 0) || not (eqb (poses / 12) ids)) ≡ true → true ≡ unfit_scan ids poses loops loop_poses original
-    unfolding unfit_scan
-    unfit_poses_lem e = rw (le-ltb ids 2 h, sym (by_twelve poses ids) ∙ e)
-
-    module _ (p : (not (eqb (poses % 12) 0) || not (eqb (poses / 12) ids)) ≡ false) where
-      rest : {b : Bool} → (not (eqb (loops % 2) 0) || not (eqb (loop_poses % 6) 0) || not (eqb (loop_poses / 6) loops)) ≡ b
-          → (b || not (eqb original poses)) ≡ unfit_scan ids poses loops loop_poses original
-      unfolding unfit_scan
-      rest {b} e =
-          let odds = not (eqb (loops % 2) 0) in
-          let same = not (eqb original poses) in
-          let q : (odds || not (eqb loop_poses (6 * loops))) ≡ b =
-          ap (λ (c : Bool). odds || c) (sym (by_six loop_poses loops))
-          ∙ sym (or_assoc odds (not (eqb (loop_poses % 6) 0)) (not (eqb (loop_poses / 6) loops))) ∙ e in
-          rw (le-ltb ids 2 h, sym (by_twelve poses ids) ∙ p)
-          (ap (λ (c : Bool). c || same) (sym q) ∙ or_assoc odds (not (eqb loop_poses (6 * loops))) same)
-
-      pub unfit_loops : (not (eqb (loops % 2) 0) || not (eqb (loop_poses % 6) 0) || not (eqb (loop_poses / 6) loops)) ≡ true
-          → true ≡ unfit_scan ids poses loops loop_poses original
-      unfit_loops e = rest e
-
-      pub unfit_rest : (not (eqb (loops % 2) 0) || not (eqb (loop_poses % 6) 0) || not (eqb (loop_poses / 6) loops)) ≡ false
-          → not (eqb original poses) ≡ unfit_scan ids poses loops loop_poses original
-      unfit_rest e = rest e
 
 -- ---- the numbers' zero
 pub zero32 : of_bits binary32 0 ≡ num 0

@@ -1,5 +1,6 @@
 -- What the definitions of a scan answer at small concrete scans, computed: each law names a slip of a definition that it would not survive. Assumes nothing.
 use Prim.Native.Nat.{◌+◌, ◌^◌}
+use Rattle.std.specs.Prelude.{Err, Some}
 use mathlib.Core.Path.{◌≡◌, refl}
 use mathlib.Core.Bool.{false}
 use lib.IntN.{pos}
@@ -8,13 +9,11 @@ use lib.Ieee.{Float, fin, add, mul, neg, round}
 use Rattle.numbers.specs.Notation.{num, ratio, if_then}
 use Rattle.rounding.specs.Rounding.{rounded}
 use Rattle.numbers.specs.Refusals.{refusal, verdict}
-use Rattle.numbers.specs.declared.Verdict.TheVariants.{Refused}
 use Rattle.rotations.specs.Rotation.{plus, minus, turned, transpose, mat_product}
-use Rattle.rotations.specs.declared.Vec3F32.{Vec3F32}
+use Rattle.rotations.specs.Formats.{Vec3F32}
 use Rattle.pose_conversion.specs.Conversions.{vec_f32, transform_of}
 use Rattle.graph.specs.Lent.{pose_from, edge_from, edge_at}
 use Rattle.numbers.specs.Walks.{strung}
-use Rattle.scans.specs.declared.Node.TheVariants.{At}
 use Rattle.scans.specs.Scans.{Scan, scan, node_below, node_of, inverse_pose, pose_product, between}
 use Rattle.scans.specs.Scans.{chain_edge, loop_edge, scan_edge, scan_ends, edge_count, ends_to, edges_to}
 use Rattle.scans.specs.ScanRows.{unfit_scan, scan_rows}
@@ -22,7 +21,7 @@ use Rattle.scans.specs.ScanRows.{unfit_scan, scan_rows}
 -- ---- which keyframe
 
 -- a. the last of equal ids is meant, not the first
-last_of_equal : node_of (5 ∷ 7 ∷ 5 ∷ []) 5 ≡ At 2
+last_of_equal : node_of (5 ∷ 7 ∷ 5 ∷ []) 5 ≡ Some 2
 unfolding node_below if_then
 last_of_equal = refl
 
@@ -66,16 +65,16 @@ narrowed_last = refl
 -- ---- rows 33 and 34
 
 -- e. 33 before 34: one keyframe, and a loop that names an absent one
-shape_first : verdict (scan_rows (5 ∷ []) 12 (5 ∷ 9 ∷ []) 12 12) ≡ Refused (refusal 33 0)
+shape_first : verdict (scan_rows (5 ∷ []) 12 (5 ∷ 9 ∷ []) 12 12) ≡ Err (refusal 33 0)
 unfolding unfit_scan node_below if_then
 shape_first = refl
 
 -- f. 34 at the loop, whichever end is absent
-absent_query : verdict (scan_rows (5 ∷ 7 ∷ []) 24 (5 ∷ 7 ∷ 5 ∷ 9 ∷ []) 24 24) ≡ Refused (refusal 34 1)
+absent_query : verdict (scan_rows (5 ∷ 7 ∷ []) 24 (5 ∷ 7 ∷ 5 ∷ 9 ∷ []) 24 24) ≡ Err (refusal 34 1)
 unfolding unfit_scan node_below if_then
 absent_query = refl
 
-absent_candidate : verdict (scan_rows (5 ∷ 7 ∷ []) 24 (5 ∷ 7 ∷ 9 ∷ 5 ∷ []) 24 24) ≡ Refused (refusal 34 1)
+absent_candidate : verdict (scan_rows (5 ∷ 7 ∷ []) 24 (5 ∷ 7 ∷ 9 ∷ 5 ∷ []) 24 24) ≡ Err (refusal 34 1)
 unfolding unfit_scan node_below if_then
 absent_candidate = refl
 

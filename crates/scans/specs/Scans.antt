@@ -1,11 +1,11 @@
 -- A scan, keyframes in order and loops that were verified between two of them, and the graph that is built of it (pose_graph.rs; document 02, Wish 2): chain
 -- edges of weight 1 from each keyframe to the next, then the loop edges; pose 0 is fixed. Definitions only.
-use Rattle.std.specs.Prelude.{ℕ, zero, suc, ◌+◌, ◌-◌, ◌*◌, ◌/◌, List, [], ◌∷◌, eqb, ltb, length, get_or, Float}
+use Rattle.std.specs.Prelude.{ℕ, zero, suc, ◌+◌, ◌-◌, ◌*◌, ◌/◌, List, [], ◌∷◌, eqb, ltb, length, get_or, Float, None, Option, Some}
 use Rattle.numbers.specs.Notation.{num, if_then}
 use Rattle.numbers.specs.Walks.{strung}
 use Rattle.rotations.specs.Rotation.{plus, minus, turned, transpose, mat_product}
 use Rattle.rotations.specs.declared.Pose.{Pose}
-use Rattle.rotations.specs.declared.Transform.{Transform}
+use Rattle.rotations.specs.Formats.{Transform}
 use Rattle.pose_conversion.specs.Conversions.{transform_of}
 use Rattle.graph.specs.Lent.{pose_at}
 use Rattle.checks.specs.Input.{Input, lent}
@@ -13,8 +13,6 @@ use Rattle.graph.specs.declared.Edge.{Edge}
 use Rattle.graph.specs.declared.Manifold.{Manifold}
 use Rattle.rows.specs.declared.Settings.{Settings}
 use Rattle.rows.specs.declared.Room.{Room}
-use Rattle.scans.specs.declared.Node.{Node}
-use Rattle.scans.specs.declared.Node.TheVariants.{At, Absent}
 
 -- an id and twelve numbers a keyframe; two ids (candidate, query) and twelve numbers (the pose from one to the other) a loop; the weight of every loop
 pub record Scan : Type 0 where
@@ -29,24 +27,24 @@ scan ids poses loops loop_poses weight = record { ids = ids; poses = poses; loop
 
 -- ---- which keyframe an id means: the last that has it
 
-unfoldable pub node_below : List ℕ → ℕ → ℕ → Node
-node_below ids id zero = Absent
-node_below ids id (suc n) = if_then (eqb (get_or ids n 0) id) (At n) (node_below ids id n)
+unfoldable pub node_below : List ℕ → ℕ → ℕ → Option ℕ
+node_below ids id zero = None
+node_below ids id (suc n) = if_then (eqb (get_or ids n 0) id) (Some n) (node_below ids id n)
 
-abbrev pub node_of : List ℕ → ℕ → Node
+abbrev pub node_of : List ℕ → ℕ → Option ℕ
 node_of ids id = node_below ids id (length ids)
 
 -- of loop k
-abbrev pub candidate_node : List ℕ → List ℕ → ℕ → Node
+abbrev pub candidate_node : List ℕ → List ℕ → ℕ → Option ℕ
 candidate_node ids loops k = node_of ids (get_or loops (k * 2) 0)
 
-abbrev pub query_node : List ℕ → List ℕ → ℕ → Node
+abbrev pub query_node : List ℕ → List ℕ → ℕ → Option ℕ
 query_node ids loops k = node_of ids (get_or loops (k * 2 + 1) 0)
 
 -- an absent one is refused before its number is used
-abbrev pub node_number : Node → ℕ
-node_number (At n) = n
-node_number Absent = 0
+abbrev pub node_number : Option ℕ → ℕ
+node_number (Some n) = n
+node_number None = 0
 
 -- ---- later · earlier⁻¹, in f64
 

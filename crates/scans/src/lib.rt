@@ -3,121 +3,69 @@
 
 ghost use Rattle.std.specs.Prelude.{◌≡◌, [], ◌∷◌, ◌++◌, ◌+◌, ◌-◌, ◌*◌, ◌/◌, ◌<◌, ◌≤◌, ◌^◌, min, length, take, drop, replicate};
 ghost use Rattle.numbers.specs.Notation.{num};
-ghost use Rattle.numbers.specs.Refusals.{verdict, says, or_else, lowest};
+ghost use Rattle.numbers.specs.Refusals.{verdict, says, lowest};
 ghost use Rattle.numbers.specs.Walks.{strung};
 ghost use Rattle.scans.specs.Scans.{node_of, candidate_node, query_node, node_number, inverse_pose, pose_product};
 ghost use Rattle.scans.specs.Scans.{between as Scans·between, chain_edge, loop_edge, scan_edge, scan_ends, edge_numbers};
-ghost use Rattle.scans.specs.ScanRows.{unfit_scan, is_absent, loop_faults, scan_rows};
+ghost use Rattle.scans.specs.ScanRows.{unfit_scan, loop_faults, scan_rows};
 
 use graph::Edge;
-use numbers::Verdict;
+use numbers::Refusal;
 use rotations::Pose;
-
-// The keyframe that an id means.
-#[derive(Clone, Copy)]
-pub enum Node {
-    At(usize),
-    Absent,
-}
-
-// The two ends of an edge.
-#[derive(Clone, Copy)]
-struct EdgeEnds {
-    a: u32,
-    b: u32,
-}
 
 // One edge more than a run takes. No more are built: rows 1 to 3 do not look at them, and row 3 refuses that many.
 const MOST_BUILT: usize = 1025;
 
-// ---- nodes
+// ---- which keyframe an id means, by its number
 
 // The last of equal ids.
-fn node_of(ids: &[u32], id: usize) -> Node
+fn node_of(ids: &[u32], id: usize) -> Option<usize>
     ensures { result ≡ node_of ids.now id }
 {
-    let mut n = ids.len();
-    while 0 < n {
-        let k = n - 1;
-        if numbers::index_at(ids, k) == id {
-            return Node::At(k);
+    for k in (0..ids.len()).rev() {
+        if ids[k] as usize == id {
+            return Some(k);
         }
-        n = k;
     }
-    Node::Absent
+    None
 }
 
-fn candidate_node(ids: &[u32], loops: &[u32], k: usize) -> Node
+// The candidate's and the query's, of loop k.
+fn loop_nodes(ids: &[u32], loops: &[u32], k: usize) -> (Option<usize>, Option<usize>)
     requires { k < 2 ^ 62 }
-    ensures { result ≡ candidate_node ids.now loops.now k }
+    ensures { (result.0 ≡ candidate_node ids.now loops.now k) × (result.1 ≡ query_node ids.now loops.now k) }
 {
-    node_of(ids, numbers::index_at(loops, k * 2))
-}
-
-fn query_node(ids: &[u32], loops: &[u32], k: usize) -> Node
-    requires { k < 2 ^ 62 }
-    ensures { result ≡ query_node ids.now loops.now k }
-{
-    node_of(ids, numbers::index_at(loops, k * 2 + 1))
+    let candidate = node_of(ids, numbers::index_at(loops, k * 2));
+    let query = node_of(ids, numbers::index_at(loops, k * 2 + 1));
+    (candidate, query)
 }
 
 // ---- rows 33 and 34
 
-fn is_absent(n: Node) -> bool
-    ensures { result ≡ is_absent n }
-{
-    match n {
-        Node::At(_) => false,
-        Node::Absent => true,
-    }
-}
-
 fn unfit_scan(ids: usize, poses: usize, loops: usize, loop_poses: usize, original: usize) -> bool
     ensures { result ≡ unfit_scan ids poses loops loop_poses original }
 {
-    if ids < 2 {
-        return true;
-    }
-    if (poses % 12 != 0) | (poses / 12 != ids) {
-        return true;
-    }
-    if (loops % 2 != 0) | (loop_poses % 6 != 0) | (loop_poses / 6 != loops) {
-        return true;
-    }
-    original != poses
+    let unfit_poses = poses % 12 != 0 || poses / 12 != ids;
+    let unfit_loops = loops % 2 != 0 || loop_poses % 6 != 0 || loop_poses / 6 != loops;
+    ids < 2 || unfit_poses || unfit_loops || original != poses
 }
 
-fn loop_34(ids: &[u32], loops: &[u32], k: usize) -> Verdict
+fn loop_34(ids: &[u32], loops: &[u32], k: usize) -> Result<(), Refusal>
     requires { k < 2 ^ 62 }
     ensures { result ≡ says (loop_faults ids.now loops.now) k }
 {
-    let candidate = candidate_node(ids, loops, k);
-    let query = query_node(ids, loops, k);
-    numbers::asked(
-        Verdict::Fine,
-        is_absent(candidate) | is_absent(query),
-        34,
-        k,
-    )
+    let (candidate, query) = loop_nodes(ids, loops, k);
+    numbers::ask(candidate.is_none() || query.is_none(), 34, k)
 }
 
 // Row 34.
-fn loop_rows(v: Verdict, ids: &[u32], loops: &[u32]) -> Verdict
-    ensures { result ≡ or_else v (lowest (loop_faults ids.now loops.now) (length loops.now / 2)) }
+fn loop_rows(ids: &[u32], loops: &[u32]) -> Result<(), Refusal>
+    ensures { result ≡ lowest (loop_faults ids.now loops.now) (length loops.now / 2) }
 {
-    let Verdict::Fine = v else {
-        return v;
-    };
-    let n = loops.len() / 2;
-    let mut k = 0usize;
-    while k < n {
-        let s = loop_34(ids, loops, k);
-        let Verdict::Fine = s else {
-            return s;
-        };
-        k += 1;
+    for k in 0..loops.len() / 2 {
+        loop_34(ids, loops, k)?;
     }
-    Verdict::Fine
+    Ok(())
 }
 
 // Rows 33 and 34, of ids, loops and the lengths of the rest.
@@ -127,11 +75,12 @@ pub fn validate_scan(
     loops: &[u32],
     loop_poses: usize,
     original: usize,
-) -> Verdict
+) -> Result<(), Refusal>
     ensures { result ≡ verdict (scan_rows ids.now poses loops.now loop_poses original) }
 {
     let unfit = unfit_scan(ids.len(), poses, loops.len(), loop_poses, original);
-    loop_rows(numbers::asked(Verdict::Fine, unfit, 33, 0), ids, loops)
+    numbers::ask(unfit, 33, 0)?;
+    loop_rows(ids, loops)
 }
 
 // ---- edges
@@ -210,19 +159,7 @@ fn put_edge(edges: &mut [f32], k: usize, e: Edge)
     ensures { edges.new ≡ take (k * 8) edges.old ++ edge_numbers e ++ drop (k * 8 + 8) edges.old }
 {
     let at = k * 8;
-    slices::copy32(&edge_numbers(e), &mut edges[at..at + 8]);
-}
-
-fn zero_edges() -> [f32; 8200]
-    ensures { result ≡ replicate 8200 (num 0) }
-{
-    [0.0; 8200]
-}
-
-fn zero_ends() -> [u32; 2050]
-    ensures { result ≡ replicate 2050 0 }
-{
-    [0; 2050]
+    slices::copy(&edge_numbers(e), &mut edges[at..at + 8]);
 }
 
 // The numbers of the first n edges, of so many keyframes; no more than are built.
@@ -236,64 +173,47 @@ pub fn built_edges(
     ensures { result ≡ strung (λ k. edge_numbers (scan_edge (keyframes - 1) poses.now loop_poses.now weight k)) (min n 1025)
         ++ replicate (8200 - min n 1025 * 8) (num 0) }
 {
-    let chain = numbers::index_before(keyframes);
-    let most = numbers::smaller_of(n, MOST_BUILT);
-    let mut edges = zero_edges();
-    let mut k = 0usize;
-    while k < most {
+    let chain = keyframes.saturating_sub(1);
+    let mut edges = [0.0; 8200];
+    for k in 0..n.min(MOST_BUILT) {
         put_edge(
             &mut edges,
             k,
             scan_edge(chain, poses, loop_poses, weight, k),
         );
-        k += 1;
     }
     edges
 }
 
-fn node_number(n: Node) -> u32
+fn node_number(n: Option<usize>) -> u32
     requires { node_number n < 4294967296 }
     ensures { result ≡ node_number n }
 {
-    match n {
-        Node::At(k) => k as u32,
-        Node::Absent => 0,
-    }
+    n.unwrap_or(0) as u32
 }
 
 // The two ends of edge k. Where it is a loop's there are at most k + 1 keyframes.
-fn scan_ends(ids: &[u32], loops: &[u32], k: usize) -> EdgeEnds
+fn scan_ends(ids: &[u32], loops: &[u32], k: usize) -> (u32, u32)
     requires { k < 1025 }
-    ensures { result.a ∷ result.b ∷ [] ≡ scan_ends ids.now loops.now k }
+    ensures { result.0 ∷ result.1 ∷ [] ≡ scan_ends ids.now loops.now k }
 {
-    let chain = numbers::index_before(ids.len());
+    let chain = ids.len().saturating_sub(1);
     if k < chain {
-        return EdgeEnds {
-            a: k as u32,
-            b: (k + 1) as u32,
-        };
+        return (k as u32, (k + 1) as u32);
     }
-    let candidate = candidate_node(ids, loops, k - chain);
-    let query = query_node(ids, loops, k - chain);
-    EdgeEnds {
-        a: node_number(candidate),
-        b: node_number(query),
-    }
+    let (candidate, query) = loop_nodes(ids, loops, k - chain);
+    (node_number(candidate), node_number(query))
 }
 
 // The ends of the first n edges; no more than are built.
 pub fn built_ends(ids: &[u32], loops: &[u32], n: usize) -> [u32; 2050]
     ensures { result ≡ strung (scan_ends ids.now loops.now) (min n 1025) ++ replicate (2050 - min n 1025 * 2) 0 }
 {
-    let most = numbers::smaller_of(n, MOST_BUILT);
-    let mut ends = zero_ends();
-    let mut k = 0usize;
-    while k < most {
-        let pair = scan_ends(ids, loops, k);
-        let at = k * 2;
-        ends[at] = pair.a;
-        ends[at + 1] = pair.b;
-        k += 1;
+    let mut ends = [0; 2050];
+    for k in 0..n.min(MOST_BUILT) {
+        let (a, b) = scan_ends(ids, loops, k);
+        ends[k * 2] = a;
+        ends[k * 2 + 1] = b;
     }
     ends
 }
@@ -302,9 +222,8 @@ pub fn built_ends(ids: &[u32], loops: &[u32], n: usize) -> [u32; 2050]
 pub fn edges_built(keyframes: usize, loops: usize) -> usize
     ensures { result ≡ min (keyframes - 1 + loops / 2) 1025 }
 {
-    let chain = numbers::index_before(keyframes);
-    if MOST_BUILT < chain {
-        return MOST_BUILT;
-    }
-    numbers::smaller_of(chain + loops / 2, MOST_BUILT)
+    keyframes
+        .saturating_sub(1)
+        .saturating_add(loops / 2)
+        .min(MOST_BUILT)
 }

@@ -1,62 +1,47 @@
-// Copies and clears over lent slices, of any lengths: the loops that crates above would else write again.
+// Copies and clears over lent slices, of any lengths.
 #![tactic(auto)]
 
 ghost use Rattle.std.specs.Prelude.{◌≡◌, length, replicate};
 ghost use Rattle.numbers.specs.Notation.{num};
 ghost use Rattle.slices.specs.Slices.{copied};
 
-// As many numbers as both have.
-pub fn copy32(from: &[f32], to: &mut [f32])
-    ensures { to.new ≡ copied from.now to.old }
-{
-    let n = numbers::smaller_of(to.len(), from.len());
-    let mut i = 0usize;
-    while i < n {
-        to[i] = from[i];
-        i += 1;
+// A number that has a +0.
+pub trait Zero: Copy {
+    ghost zero: { Self };
+
+    fn zero() -> Self
+        ensures { result ≡ zero };
+}
+
+impl Zero for f32 {
+    ghost zero = { num 0 };
+
+    fn zero() -> f32 {
+        0.0f32
     }
 }
 
-pub fn copy64(from: &[f64], to: &mut [f64])
-    ensures { to.new ≡ copied from.now to.old }
-{
-    let n = numbers::smaller_of(to.len(), from.len());
-    let mut i = 0usize;
-    while i < n {
-        to[i] = from[i];
-        i += 1;
+impl Zero for f64 {
+    ghost zero = { num 0 };
+
+    fn zero() -> f64 {
+        0.0f64
     }
 }
 
-// The same of counts and indexes.
-pub fn copy_counts(from: &[u32], to: &mut [u32])
+// As many as both have.
+pub fn copy<T: Copy>(from: &[T], to: &mut [T])
     ensures { to.new ≡ copied from.now to.old }
 {
-    let n = numbers::smaller_of(to.len(), from.len());
-    let mut i = 0usize;
-    while i < n {
-        to[i] = from[i];
-        i += 1;
-    }
+    let n = to.len().min(from.len());
+    to[..n].copy_from_slice(&from[..n]);
 }
 
 // Every number becomes +0.
-pub fn clear32(w: &mut [f32])
-    ensures { w.new ≡ replicate (length w.old) (num 0) }
+pub fn clear<T: Zero>(w: &mut [T])
+    ensures { w.new ≡ replicate (length w.old) T.zero }
 {
-    let mut i = 0usize;
-    while i < w.len() {
-        w[i] = 0.0f32;
-        i += 1;
-    }
-}
-
-pub fn clear64(w: &mut [f64])
-    ensures { w.new ≡ replicate (length w.old) (num 0) }
-{
-    let mut i = 0usize;
-    while i < w.len() {
-        w[i] = 0.0f64;
-        i += 1;
+    for x in w.iter_mut() {
+        *x = T::zero();
     }
 }

@@ -10,8 +10,9 @@ use lib.ListN.{length, get_or}
 use lib.Ieee.{Float, nan}
 use Rattle.numbers.specs.Notation.{if_then}
 use Rattle.numbers.proofs.Choices.{left}
-use Rattle.solve.specs.declared.Solved.{Solved}
-use Rattle.solve.specs.declared.Solved.TheVariants.{Step, Failed, Short}
+use Rattle.std.specs.Prelude.{Result, Ok, Err, ⊤}
+use Rattle.solve.specs.declared.SolveError.{SolveError}
+use Rattle.solve.specs.declared.SolveError.TheVariants.{Failed, Short}
 use Rattle.solve.specs.Rule.{factor_row, pivot, lower, definite, forward, step, solvable, nothing}
 use Rattle.profile.specs.Layout.{need, hessian_of}
 use Rattle.solve.specs.Work.{gradient_of, step_at, after, work_after, step_in, solved_as, leaves}
@@ -19,7 +20,7 @@ use Rattle.solve.proofs.Places.{at_step, system_after, gradient_after, length_af
 use Rattle.solve.proofs.Close.{Answered}
 
 -- any two outcomes that meet the promise are one
-pub one_answer : (w : List Float) (n : ℕ) (d : Float) (r s : Solved) (v z : List Float) → Answered w n d r v → Answered w n d s z → (r ≡ s) × (v ≡ z)
+pub one_answer : (w : List Float) (n : ℕ) (d : Float) (r s : Result ⊤ SolveError) (v z : List Float) → Answered w n d r v → Answered w n d s z → (r ≡ s) × (v ≡ z)
 one_answer w n d r s v z p q = (p.0 ∙ sym q.0, p.1 ∙ sym q.1)
 
 -- ---- the rule reads H(i,j) for j ≤ i < n and g(i) for i < n, and nothing else
@@ -94,16 +95,16 @@ pub after_after : (w : List Float) (n : ℕ) (x y : ℕ → Float) → work_afte
 after_after w n x y = after_ext (work_after w n x) w n y y (length_after w n x) (λ q h k. read_kept w n x q h k) (λ i h. refl)
 
 -- with room there is an answer, by the rule
-pub answer_is : (w : List Float) (n : ℕ) (d : Float) → need n ≤ length w → solved_as w n d ≡ if_then (solvable (hessian_of w n) (gradient_of w n) n d) Step Failed
+pub answer_is : (w : List Float) (n : ℕ) (d : Float) → need n ≤ length w → solved_as w n d ≡ if_then (solvable (hessian_of w n) (gradient_of w n) n d) (Ok tt) (Err Failed)
 unfolding solved_as
-answer_is w n d long = sym (left Short (le-ltb (length w) (need n) long) refl)
+answer_is w n d long = sym (left (Err Short) (le-ltb (length w) (need n) long) refl)
 
 -- so a solve after a solve answers and leaves what it would have at first
 pub same_leaves : (w : List Float) (n : ℕ) (x : ℕ → Float) → need n ≤ length w → (d : Float) → leaves (work_after w n x) n d (solved_as (work_after w n x) n d) ≡ leaves w n d (solved_as w n d)
 unfolding if_then
 same_leaves w n x long d = rw (same_answer w n x long d, answer_is w n d long) (go (solvable (hessian_of w n) (gradient_of w n) n d))
   where
-    go : (b : Bool) → leaves (work_after w n x) n d (if_then b Step Failed) ≡ leaves w n d (if_then b Step Failed)
+    go : (b : Bool) → leaves (work_after w n x) n d (if_then b (Ok tt) (Err Failed)) ≡ leaves w n d (if_then b (Ok tt) (Err Failed))
     go true = rw (same_step w n x long d) (after_after w n x (step_in w n d))
     go false = after_after w n x nothing
 

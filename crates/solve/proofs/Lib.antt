@@ -1,6 +1,7 @@
 pub mod Sums
 pub mod Lower
 pub mod Places
+pub mod Parts
 pub mod Firsts
 pub mod Rows
 pub mod Steps

@@ -1,11 +1,11 @@
 -- The work of a solve of n unknowns (document 01, "Numbers lent and given back"): where the system stands in it, what a solve answers, and what stands at every
 -- place after it. H(i,j), j ≤ i, stands at j n + i; L(i,j), j < i, at i n + j; L(i,i) at n n + i; the gradient at n n + n + i; the step at n n + 2 n + i.
-use Rattle.std.specs.Prelude.{ℕ, ◌+◌, ◌-◌, ◌*◌, ◌/◌, ◌%◌, List, ltb, leb, length, get_or, Float}
+use Rattle.std.specs.Prelude.{ℕ, ◌+◌, ◌-◌, ◌*◌, ◌/◌, ◌%◌, List, Result, Ok, Err, ⊤, ltb, leb, length, get_or, Float}
 use Rattle.std.specs.Float.{nan}
 use Rattle.numbers.specs.Notation.{num, if_then}
 use Rattle.numbers.specs.Walks.{table}
-use Rattle.solve.specs.declared.Solved.{Solved}
-use Rattle.solve.specs.declared.Solved.TheVariants.{Step, Failed, Short}
+use Rattle.solve.specs.declared.SolveError.{SolveError}
+use Rattle.solve.specs.declared.SolveError.TheVariants.{Failed, Short}
 use Rattle.solve.specs.Rule.{step, solvable, nothing}
 -- the system in the work: how many numbers n unknowns need, and H(i,j); the gradient
 use Rattle.profile.specs.Layout.{need, hessian_of}
@@ -36,17 +36,17 @@ after x v (step_at i) = x i
 unfoldable pub work_after : List Float → ℕ → (ℕ → Float) → List Float
 work_after w n x = table (λ q. after x (get_or w q nan) (place_of n q)) (length w)
 
--- ---- the answer: Short where the work is shorter than n (n + 3); else Step where the rule has a step, and Failed where it has none
+-- ---- the answer: Short where the work is shorter than n (n + 3); else Ok where the rule has a step, and Failed where it has none
 
 abbrev pub step_in : List Float → ℕ → Float → ℕ → Float
 step_in w n d = step (hessian_of w n) (gradient_of w n) n d
 
-unfoldable pub solved_as : List Float → ℕ → Float → Solved
+unfoldable pub solved_as : List Float → ℕ → Float → Result ⊤ SolveError
 solved_as w n d =
-    if_then (ltb (length w) (need n)) Short (if_then (solvable (hessian_of w n) (gradient_of w n) n d) Step Failed)
+    if_then (ltb (length w) (need n)) (Err Short) (if_then (solvable (hessian_of w n) (gradient_of w n) n d) (Ok tt) (Err Failed))
 
 -- what each answer leaves
-abbrev pub leaves : List Float → ℕ → Float → Solved → List Float
-leaves w n d Short = w
-leaves w n d Step = work_after w n (step_in w n d)
-leaves w n d Failed = work_after w n nothing
+abbrev pub leaves : List Float → ℕ → Float → Result ⊤ SolveError → List Float
+leaves w n d (Err Short) = w
+leaves w n d (Ok _) = work_after w n (step_in w n d)
+leaves w n d (Err Failed) = work_after w n nothing

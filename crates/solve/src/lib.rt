@@ -2,8 +2,7 @@
 // What is +0 by structure, left of a row's first entry that is not +0, is skipped: the bits are those of the plain rule all the same.
 #![tactic(auto)]
 
-ghost use Rattle.std.specs.Prelude.{◌≡◌, true, cond, ◌+◌, ◌-◌, ◌*◌, ◌<◌, ◌≤◌, length, get_or};
-ghost use Rattle.std.specs.Float.{nan};
+ghost use Rattle.std.specs.Prelude.{◌≡◌, ◌+◌, ◌-◌, ◌*◌, ◌<◌, ◌≤◌, length, is_some};
 ghost use Rattle.std.specs.Float.Ieee.Scale.{finite};
 ghost use Rattle.numbers.specs.Walks.{every};
 ghost use Rattle.solve.specs.Rule as R;
@@ -12,10 +11,9 @@ ghost use Rattle.profile.specs.Starts.{first_of};
 ghost use Rattle.solve.specs.Work.{work_after, solved_as, leaves};
 ghost use Rattle.solve.specs.forms.Profile as P;
 
-// Step: the step stands in the work. Failed: there is none. Short: the work is shorter than n (n + 3), and is as it was.
+// Failed: there is no step. Short: the work is shorter than n (n + 3), and is as it was.
 #[derive(Clone, Copy)]
-pub enum Solved {
-    Step,
+pub enum SolveError {
     Failed,
     Short,
 }
@@ -27,18 +25,17 @@ fn clear(w: &mut [f32], p: usize, m: usize)
     requires { p + m ≤ length w.old }
     ensures { w.new ≡ P.cleared_at w.old p m }
 {
-    slices::clear32(&mut w[p..p + m]);
+    w[p..p + m].fill(0.0);
 }
 
 // The rows of L, without the diagonal.
+#[tactic(auto, using(profile::proofs::Index::line_within))]
 fn clear_rows(w: &mut [f32], n: usize)
     requires { n * n ≤ length w.old }
     ensures { w.new ≡ P.cleared_rows w.old n n }
 {
-    let mut i = 0usize;
-    while i < n {
+    for i in 0..n {
         clear(w, i * n, i);
-        i += 1usize;
     }
 }
 
@@ -51,7 +48,7 @@ fn clear_lower(w: &mut [f32], n: usize)
     clear(w, n * n, n);
 }
 
-// ---- the factor
+// ---- sums and tests
 
 // v less the products of the numbers from p on and from q on, the k-th of each for k from a up to m.
 fn less(w: &[f32], v: f32, p: usize, q: usize, a: usize, m: usize) -> f32
@@ -59,204 +56,194 @@ fn less(w: &[f32], v: f32, p: usize, q: usize, a: usize, m: usize) -> f32
     ensures { result ≡ P.less_at w.now v (p + a) (q + a) (m - a) }
 {
     let mut s = v;
-    let mut k = a;
-    while k < m {
-        s = s - w[p + k] * w[q + k];
-        k += 1usize;
+    for k in a..m {
+        s -= w[p + k] * w[q + k];
     }
     s
-}
-
-// L(i,j), the next entry of row i, which stands from p on and starts at s.
-fn next_entry(w: &[f32], n: usize, f: &[usize; 384], i: usize, j: usize, s: usize, p: usize) -> f32
-    requires { (i < n) × (j < i) × (need n ≤ length w.now) × (p ≡ i * n) }
-    ensures { result ≡ P.next_entry w.now n f.now i j s }
-{
-    let q = j * n;
-    let v = w[q + i];
-    less(w, v, p, q, profile::start(v, s, profile::first_of(f, j)), j) / w[n * n + j]
-}
-
-// Row i of L below the diagonal, from its start s on.
-fn row_from(w: &mut [f32], n: usize, f: &[usize; 384], i: usize, s: usize)
-    requires { (i < n) × (need n ≤ length w.old) × (s ≡ first_of f.now i) }
-    ensures { w.new ≡ P.row_from w.old n f.now i (i - s) }
-{
-    let p = i * n;
-    let mut j = s;
-    while j < i {
-        w[p + j] = next_entry(w, n, f, i, j, s, p);
-        j += 1usize;
-    }
-}
-
-// The pivot of row i, its products from a on.
-fn pivot_from(w: &[f32], n: usize, damping: f32, i: usize, a: usize) -> f32
-    requires { (i < n) × (need n ≤ length w.now) }
-    ensures { result ≡ P.pivot_from w.now n damping i a }
-{
-    let p = i * n;
-    less(w, w[p + i] + damping, p, p, a, i)
 }
 
 // Above 0 and finite.
 fn serves(p: f32) -> bool
     ensures { result ≡ R.serves p }
 {
-    if 0.0 < p {
-        numbers::is_finite32(p)
-    } else {
-        false
-    }
-}
-
-// L with its diagonal, row by row, up to a pivot that fails.
-fn factor(w: &mut [f32], n: usize, f: &[usize; 384], damping: f32) -> bool
-    requires { need n ≤ length w.old }
-    ensures { (result, w.new) ≡ P.rows_from w.old n f.now damping 0 n }
-{
-    let mut i = 0usize;
-    while i < n {
-        let s = profile::first_of(f, i);
-        row_from(w, n, f, i, s);
-        let p = pivot_from(w, n, damping, i, s);
-        w[n * n + i] = roots::sqrt32(p);
-        if !serves(p) {
-            return false;
-        }
-        i += 1usize;
-    }
-    true
-}
-
-// ---- the substitutions
-
-// y(i)
-fn next_ahead(w: &[f32], n: usize, f: &[usize; 384], i: usize) -> f32
-    requires { (i < n) × (need n ≤ length w.now) }
-    ensures { result ≡ P.next_ahead w.now n f.now i }
-{
-    let d = n * n;
-    let g = d + n;
-    let v = -w[g + i];
-    less(
-        w,
-        v,
-        i * n,
-        g + n,
-        profile::start(v, profile::first_of(f, i), 0usize),
-        i,
-    ) / w[d + i]
-}
-
-fn forward(w: &mut [f32], n: usize, f: &[usize; 384])
-    requires { need n ≤ length w.old }
-    ensures { w.new ≡ P.forward_from w.old n f.now n }
-{
-    let x = n * n + n + n;
-    let mut i = 0usize;
-    while i < n {
-        w[x + i] = next_ahead(w, n, f, i);
-        i += 1usize;
-    }
+    0.0 < p && p.is_finite()
 }
 
 // Whether L(k,i) x(k) is left out of s: row k starts after i, so that it is ±0, and s is no zero.
 fn left_out(f: &[usize; 384], i: usize, s: f32, k: usize) -> bool
     ensures { result ≡ P.left_out f.now i s k }
 {
-    if i < profile::first_of(f, k) {
-        s != 0.0
-    } else {
-        false
-    }
+    i < profile::first_of(f, k) && s != 0.0
 }
 
-// s less L(k,i) x(k), where the step stands from x on
-fn next_below(w: &[f32], n: usize, f: &[usize; 384], i: usize, s: f32, k: usize, x: usize) -> f32
-    requires { (i < k) × (k < n) × (need n ≤ length w.now) × (x ≡ n * n + n + n) }
-    ensures { result ≡ P.next_below w.now n f.now i s k }
-{
-    if left_out(f, i, s, k) {
-        return s;
-    }
-    s - w[k * n + i] * w[x + k]
+// ---- the factor and the substitutions
+
+// A system of n unknowns in its work, and where its rows start.
+#[derive(Drop)]
+struct System<'a> {
+    w: &'a mut [f32],
+    n: usize,
+    f: [usize; 384],
+    ghost room: { need n ≤ length w.now },
 }
 
-// x(i): for all k after i.
-fn back_from(w: &[f32], n: usize, f: &[usize; 384], i: usize, x: usize) -> f32
-    requires { (i < n) × (need n ≤ length w.now) × (x ≡ n * n + n + n) }
-    ensures { result ≡ P.back_from w.now n f.now i }
-{
-    let mut s = w[x + i];
-    let mut k = i + 1usize;
-    while k < n {
-        s = next_below(w, n, f, i, s, k, x);
-        k += 1usize;
-    }
-    s / w[n * n + i]
-}
+impl<'a> System<'a> {
+    ghost use Rattle.solve.specs.forms.Systems.{Same};
 
-fn backward(w: &mut [f32], n: usize, f: &[usize; 384])
-    requires { need n ≤ length w.old }
-    ensures { w.new ≡ P.backward_from w.old n f.now n }
-{
-    let x = n * n + n + n;
-    let mut i = n;
-    while 0usize < i {
-        i -= 1usize;
-        w[x + i] = back_from(w, n, f, i, x);
+    // L(i,j), the next entry of row i, which stands from p on and starts at s.
+    #[tactic(auto, using(profile::proofs::Index::line_within))]
+    fn next_entry(&self, i: usize, j: usize, s: usize, p: usize) -> f32
+        requires { (i < self.now.n) × (j < i) × (p ≡ i * self.now.n) }
+        ensures { result ≡ P.next_entry self.now.w.now self.now.n self.now.f i j s }
+    {
+        let q = j * self.n;
+        let v = self.w[q + i];
+        let a = profile::start(v, s, profile::first_of(&self.f, j));
+        less(self.w, v, p, q, a, j) / self.w[self.n * self.n + j]
     }
-}
 
-// Whether the m numbers from p on are finite.
-fn all_finite(w: &[f32], p: usize, m: usize) -> bool
-    requires { p + m ≤ length w.now }
-    ensures { result ≡ every (λ k. finite (get_or w.now (p + k) nan)) m }
-{
-    let mut k = 0usize;
-    while k < m {
-        if !numbers::is_finite32(w[p + k]) {
-            return false;
+    // Row i of L below the diagonal, from its start s on.
+    #[tactic(auto, using(profile::proofs::Index::line_within))]
+    fn row_from(&mut self, i: usize, s: usize)
+        requires { (i < self.old.n) × (s ≡ first_of self.old.f i) }
+        ensures value { self.new.w.now ≡ P.row_from self.old.w.now self.old.n self.old.f i (i - s) }
+        ensures same { Same self.old self.new }
+    {
+        let p = i * self.n;
+        for j in s..i {
+            self.w[p + j] = self.next_entry(i, j, s, p);
         }
-        k += 1usize;
     }
-    true
+
+    // The pivot of row i, its products from a on.
+    #[tactic(auto, using(profile::proofs::Index::line_within))]
+    fn pivot_from(&self, damping: f32, i: usize, a: usize) -> f32
+        requires { i < self.now.n }
+        ensures { result ≡ P.pivot_from self.now.w.now self.now.n damping i a }
+    {
+        let p = i * self.n;
+        less(self.w, self.w[p + i] + damping, p, p, a, i)
+    }
+
+    // L with its diagonal, row by row, up to a pivot that fails.
+    fn factor(&mut self, damping: f32) -> Option<()>
+        ensures value { (is_some result, self.new.w.now) ≡ P.rows_from self.old.w.now self.old.n self.old.f damping 0 self.old.n }
+        ensures same { Same self.old self.new }
+    {
+        for i in 0..self.n {
+            let s = profile::first_of(&self.f, i);
+            self.row_from(i, s);
+            let p = self.pivot_from(damping, i, s);
+            self.w[self.n * self.n + i] = roots::sqrt32(p);
+            if !serves(p) {
+                return None;
+            }
+        }
+        Some(())
+    }
+
+    // y(i)
+    #[tactic(auto, using(profile::proofs::Index::line_within))]
+    fn next_ahead(&self, i: usize) -> f32
+        requires { i < self.now.n }
+        ensures { result ≡ P.next_ahead self.now.w.now self.now.n self.now.f i }
+    {
+        let d = self.n * self.n;
+        let g = d + self.n;
+        let v = -self.w[g + i];
+        let a = profile::start(v, profile::first_of(&self.f, i), 0);
+        less(self.w, v, i * self.n, g + self.n, a, i) / self.w[d + i]
+    }
+
+    fn forward(&mut self)
+        ensures value { self.new.w.now ≡ P.forward_from self.old.w.now self.old.n self.old.f self.old.n }
+        ensures same { Same self.old self.new }
+    {
+        let x = self.n * self.n + self.n + self.n;
+        for i in 0..self.n {
+            self.w[x + i] = self.next_ahead(i);
+        }
+    }
+
+    // s less L(k,i) x(k), where the step stands from x on
+    #[tactic(auto, using(profile::proofs::Index::line_within))]
+    fn next_below(&self, i: usize, s: f32, k: usize, x: usize) -> f32
+        requires { (i < k) × (k < self.now.n) × (x ≡ self.now.n * self.now.n + self.now.n + self.now.n) }
+        ensures { result ≡ P.next_below self.now.w.now self.now.n self.now.f i s k }
+    {
+        if left_out(&self.f, i, s, k) {
+            return s;
+        }
+        s - self.w[k * self.n + i] * self.w[x + k]
+    }
+
+    // x(i): for all k after i.
+    fn back_from(&self, i: usize, x: usize) -> f32
+        requires { (i < self.now.n) × (x ≡ self.now.n * self.now.n + self.now.n + self.now.n) }
+        ensures { result ≡ P.back_from self.now.w.now self.now.n self.now.f i }
+    {
+        let mut s = self.w[x + i];
+        for k in i + 1..self.n {
+            s = self.next_below(i, s, k, x);
+        }
+        s / self.w[self.n * self.n + i]
+    }
+
+    fn backward(&mut self)
+        ensures value { self.new.w.now ≡ P.backward_from self.old.w.now self.old.n self.old.f self.old.n }
+        ensures same { Same self.old self.new }
+    {
+        let x = self.n * self.n + self.n + self.n;
+        for i in (0..self.n).rev() {
+            self.w[x + i] = self.back_from(i, x);
+        }
+    }
+
+    // Whether the step is finite.
+    fn is_finite(&self) -> bool
+        ensures { result ≡ every (λ i. finite (P.step_of self.now.w.now self.now.n i)) self.now.n }
+    {
+        let x = self.n * self.n + self.n + self.n;
+        self.w[x..x + self.n].iter().all(|v| (*v).is_finite())
+    }
+
+    // The step, if there is one, in its places. L's places are left as they come.
+    fn solve(&mut self, damping: f32) -> Option<()>
+        ensures value { (is_some result, self.new.w.now) ≡ P.solved_from self.old.w.now self.old.n self.old.f damping }
+        ensures same { Same self.old self.new }
+    {
+        self.factor(damping)?;
+        self.forward();
+        self.backward();
+        self.is_finite().then_some(())
+    }
 }
 
 // ---- the solve
 
-// Whether there is a step: it then stands in its places. L's places are left as they come.
-fn solves(w: &mut [f32], n: usize, f: &[usize; 384], damping: f32) -> bool
+// The same, of work that is lent.
+fn solve_lent(w: &mut [f32], n: usize, f: [usize; 384], damping: f32) -> Option<()>
     requires { need n ≤ length w.old }
-    ensures { (result, w.new) ≡ P.solved_from w.old n f.now damping }
+    ensures { (is_some result, w.new) ≡ P.solved_from w.old n f damping }
 {
-    if !factor(w, n, f, damping) {
-        return false;
-    }
-    forward(w, n, f);
-    backward(w, n, f);
-    all_finite(w, n * n + n + n, n)
-}
-
-// How many of n numbers of the step are to be cleared.
-fn to_clear(found: bool, n: usize) -> usize
-    ensures { result ≡ cond found 0 n }
-{
-    if found { 0usize } else { n }
+    let mut system = System { w, n, f };
+    system.solve(damping)
 }
 
 // The work w holds a system of n unknowns: its step for the damping.
-pub fn solve_damped(w: &mut [f32], n: usize, damping: f32) -> Solved
+#[tactic(auto, using(crate::proofs::Close::room_by))]
+pub fn solve_damped(w: &mut [f32], n: usize, damping: f32) -> Result<(), SolveError>
     ensures { (result ≡ solved_as w.old n damping) × (w.new ≡ leaves w.old n damping (solved_as w.old n damping)) }
 {
     if !profile::has_room(w.len(), n) {
-        return Solved::Short;
+        return Err(SolveError::Short);
     }
     clear_lower(w, n);
     let f = profile::starts(w, n);
-    let found = solves(w, n, &f, damping);
-    clear(w, n * n + n + n, to_clear(found, n));
+    let step = solve_lent(w, n, f, damping);
+    if step.is_none() {
+        clear(w, n * n + n + n, n);
+    }
     clear_lower(w, n);
-    if found { Solved::Step } else { Solved::Failed }
+    step.ok_or(SolveError::Failed)
 }

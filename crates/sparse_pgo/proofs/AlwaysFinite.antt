@@ -1,5 +1,6 @@
 -- The numbers that the Rust tests and the port need not, since in every run they are finite: the gradient's norm, the damped diagonal, the step's norm. Document 01, "What is turned down".
 -- Assumes nothing.
+use Rattle.std.specs.Prelude.{Ok}
 use mathlib.Core.Path.{◌≡◌, refl, subst}
 use mathlib.Core.Bool.{Bool, true, false}
 use mathlib.Core.List.{List, []}
@@ -17,7 +18,6 @@ use Rattle.graph.specs.Lent.{dof_of, pose_at}
 use Rattle.checks.specs.Input.{Input, graph_of}
 use Rattle.checks.specs.Table.{blocks_of, checks}
 use Rattle.checks.specs.declared.Counts.{Counts}
-use Rattle.checks.specs.declared.Checked.TheVariants as checked
 use Rattle.graph.specs.declared.Edge.{Edge}
 use Rattle.graph.specs.declared.Manifold.{Manifold}
 use Rattle.rows.specs.declared.Settings.{Settings}
@@ -96,7 +96,7 @@ module _ (i : Input) where
   pub blocks_fit : PassedGraph i → Fits (unit_of i.manifold) unknowns (links_of (graph_of i))
   blocks_fit g = subst (Fits (unit_of i.manifold) unknowns) (links_same i g) (lent_fits (unit_of i.manifold) i.ends i.edges (blocks_of i) (free_count (graph_of i)))
 
-  pub always_finite : (c : Counts) → (checks i).answer ≡ checked.Fit c → T (fits binary32 i.settings.damping)
+  pub always_finite : (c : Counts) → (checks i).answer ≡ Ok c → T (fits binary32 i.settings.damping)
       → (turns : ℕ) (cost : Float) (s : State) → (after turns cost).next ≡ next.On s → AlwaysFinite (run_parts i) unknowns (after turns cost).held s.damping
   always_finite c e f turns cost s q =
       let g = (fit i c e).0.graph in

@@ -1,4 +1,7 @@
 -- The system of the accepted poses, and its gradient's norm. Assumes nothing.
+use Rattle.assembly.specs.declared.AssemblyError.TheVariants as assembly_error
+use Rattle.assembly.specs.declared.AssemblyError.{AssemblyError}
+use Rattle.std.specs.Prelude.{Err, Ok, Result, ⊤}
 use mathlib.Core.Path.{◌≡◌, refl, sym, ap, ap₂, ◌∙◌, subst}
 use mathlib.Core.Bool.{true, false}
 use mathlib.Core.List.{List, [], ◌++◌}
@@ -24,8 +27,6 @@ use Rattle.solve.specs.Rule.{nothing}
 use Rattle.profile.specs.Layout.{need}
 use Rattle.solve.specs.Work.{gradient_of, work_after}
 use Rattle.assembly.specs.Assembly.{cleared, assembled_ends, assembled_from, assembled_of}
-use Rattle.assembly.specs.declared.Assembled.{Assembled}
-use Rattle.assembly.specs.declared.Assembled.TheVariants as assembled
 use Rattle.assembly.proofs.Walked.{Fits}
 use Rattle.assembly.proofs.LeftBehind.{Clean, assembled_clean, clean_after}
 use Rattle.decisions.specs.declared.Assembly.{Assembly}
@@ -63,14 +64,14 @@ part_norm w n from to e q =
 
 -- ---- what the code says of an assembly
 
-module _ (setup : Setup) (w32 : List Float) {made : Assembled} where
-  pub assembly_bad : {k : ℕ} {why : Failure} → made ≡ assembled.Bad k why → assembly.Refused (refusal 21 k) ≡ assembly_in setup made w32
+module _ (setup : Setup) (w32 : List Float) {made : Result ⊤ AssemblyError} where
+  pub assembly_bad : {k : ℕ} {why : Failure} → made ≡ Err (assembly_error.BadEdge k why) → assembly.Refused (refusal 21 k) ≡ assembly_in setup made w32
   assembly_bad q = rw q
 
-  pub assembly_short : made ≡ assembled.Short → assembly.Flat ≡ assembly_in setup made w32
+  pub assembly_short : made ≡ Err assembly_error.Short → assembly.Flat ≡ assembly_in setup made w32
   assembly_short q = rw q
 
-  module _ (long : length w32 ≡ need setup.n) (q : made ≡ assembled.Done) {norm tolerance : Float}
+  module _ (long : length w32 ≡ need setup.n) (q : made ≡ Ok tt) {norm tolerance : Float}
       (e : norm ≡ norm_of (λ i. get_or (take (setup.n * setup.n + setup.n + setup.n - (setup.n * setup.n + setup.n)) (drop (setup.n * setup.n + setup.n) w32)) i nan) (length (take (setup.n * setup.n + setup.n + setup.n - (setup.n * setup.n + setup.n)) (drop (setup.n * setup.n + setup.n) w32))))
       (u : tolerance ≡ setup.settings.gradient_tolerance) where
     flat_is : lt norm tolerance ≡ lt (norm_of (gradient_of w32 setup.n) setup.n) setup.settings.gradient_tolerance
@@ -86,7 +87,7 @@ module _ (setup : Setup) (w32 : List Float) {made : Assembled} where
 
 -- ---- and what an assembly is
 
-module _ {setup : Setup} (l : Links Edge) (poses w32 : List Float) {w32' : List Float} {made : Assembled}
+module _ {setup : Setup} (l : Links Edge) (poses w32 : List Float) {w32' : List Float} {made : Result ⊤ AssemblyError}
     (lent : Sized setup × (length w32 ≡ need setup.n))
     (h : (made, w32') ≡ assembled_of setup.manifold (dof_of setup.manifold * setup.free) l (pose_at poses) w32) where
   abbrev found : Ended (List Float)
@@ -105,7 +106,7 @@ module _ {setup : Setup} (l : Links Edge) (poses w32 : List Float) {w32' : List 
       let n : dof_of setup.manifold * setup.free ≡ setup.n = sym lent.0.unknowns in
       let room : need (dof_of setup.manifold * setup.free) ≤ length w32 = rw n (le_of_eq (sym lent.1)) in
       let left : Clean (dof_of setup.manifold * setup.free) w32 w32'
-      = subst (Clean (dof_of setup.manifold * setup.free) w32) (ap (λ (z : Assembled × List Float). z.1) (sym h)) (assembled_clean (dof_of setup.manifold * setup.free) w32 room setup.manifold l (pose_at poses) fits) in
+      = subst (Clean (dof_of setup.manifold * setup.free) w32) (ap (λ (z : Result ⊤ AssemblyError × List Float). z.1) (sym h)) (assembled_clean (dof_of setup.manifold * setup.free) w32 room setup.manifold l (pose_at poses) fits) in
       ap (λ (k : ℕ). work_after w32' k nothing) (sym n) ∙ clean_after (dof_of setup.manifold * setup.free) w32 w32' left
 
   module _ (long : length w32' ≡ length w32) {a : Assembly} (q : a ≡ assembly_in setup made w32') where
@@ -113,23 +114,23 @@ module _ {setup : Setup} (l : Links Edge) (poses w32 : List Float) {w32' : List 
     sized = long ∙ lent.1
 
     -- the answer, and that the work is the system where it goes on
-    by : (m : Assembled) (e : Ended (List Float)) → (m, w32') ≡ assembled_from e → assembly_in setup m w32' ≡ assembly_of (parts_in setup l) e
+    by : (m : Result ⊤ AssemblyError) (e : Ended (List Float)) → (m, w32') ≡ assembled_from e → assembly_in setup m w32' ≡ assembly_of (parts_in setup l) e
     unfolding parts_on
-    by assembled.Done (done s) c = let t : w32' ≡ s = ap (λ (z : Assembled × List Float). z.1) c in ap (λ (z : List Float). assembly_in setup assembled.Done z) t
-    by assembled.Done (stopped j why s) c = let d = ap (λ (z : Assembled × List Float). z.0) c in let z : ◌≡◌ {A = ℕ} 0 1 = cc in absurd (omega arith)
-    by assembled.Short (done s) c = let d = ap (λ (z : Assembled × List Float). z.0) c in let z : ◌≡◌ {A = ℕ} 0 1 = cc in absurd (omega arith)
-    by assembled.Short (stopped j why s) c = let d = ap (λ (z : Assembled × List Float). z.0) c in let z : ◌≡◌ {A = ℕ} 0 1 = cc in absurd (omega arith)
-    by (assembled.Bad k why) (done s) c = let d = ap (λ (z : Assembled × List Float). z.0) c in let z : ◌≡◌ {A = ℕ} 0 1 = cc in absurd (omega arith)
-    by (assembled.Bad k why) (stopped j Numerical s) c = let d : assembled.Bad k why ≡ assembled.Bad j Numerical = ap (λ (z : Assembled × List Float). z.0) c in let t : k ≡ j = cc in ap (λ (z : ℕ). assembly.Refused (refusal 21 z)) t
+    by (Ok _) (done s) c = let t : w32' ≡ s = ap (λ (z : Result ⊤ AssemblyError × List Float). z.1) c in ap (λ (z : List Float). assembly_in setup (Ok tt) z) t
+    by (Ok _) (stopped j why s) c = let d = ap (λ (z : Result ⊤ AssemblyError × List Float). z.0) c in let z : ◌≡◌ {A = ℕ} 0 1 = cc in absurd (omega arith)
+    by (Err assembly_error.Short) (done s) c = let d = ap (λ (z : Result ⊤ AssemblyError × List Float). z.0) c in let z : ◌≡◌ {A = ℕ} 0 1 = cc in absurd (omega arith)
+    by (Err assembly_error.Short) (stopped j why s) c = let d = ap (λ (z : Result ⊤ AssemblyError × List Float). z.0) c in let z : ◌≡◌ {A = ℕ} 0 1 = cc in absurd (omega arith)
+    by (Err (assembly_error.BadEdge k why)) (done s) c = let d = ap (λ (z : Result ⊤ AssemblyError × List Float). z.0) c in let z : ◌≡◌ {A = ℕ} 0 1 = cc in absurd (omega arith)
+    by (Err (assembly_error.BadEdge k why)) (stopped j Numerical s) c = let d : Err (assembly_error.BadEdge k why) ≡ Err (assembly_error.BadEdge j Numerical) = ap (λ (z : Result ⊤ AssemblyError × List Float). z.0) c in let t : k ≡ j = cc in ap (λ (z : ℕ). assembly.Refused (refusal 21 z)) t
 
     answers : a ≡ assembly_of (parts_in setup l) found
     answers = q ∙ by made found made_is
 
-    steep : (m : Assembled) (e : Ended (List Float)) → (m, w32') ≡ assembled_from e → assembly_in setup m w32' ≡ assembly.Steep → e ≡ done w32'
-    steep assembled.Done (done s) c b = ap done (sym (ap (λ (z : Assembled × List Float). z.1) c))
-    steep assembled.Done (stopped j why s) c b = let d = ap (λ (z : Assembled × List Float). z.0) c in let z : ◌≡◌ {A = ℕ} 0 1 = cc in absurd (omega arith)
-    steep assembled.Short e c b = let z : ◌≡◌ {A = ℕ} 0 1 = cc in absurd (omega arith)
-    steep (assembled.Bad k why) e c b = let z : ◌≡◌ {A = ℕ} 0 1 = cc in absurd (omega arith)
+    steep : (m : Result ⊤ AssemblyError) (e : Ended (List Float)) → (m, w32') ≡ assembled_from e → assembly_in setup m w32' ≡ assembly.Steep → e ≡ done w32'
+    steep (Ok _) (done s) c b = ap done (sym (ap (λ (z : Result ⊤ AssemblyError × List Float). z.1) c))
+    steep (Ok _) (stopped j why s) c b = let d = ap (λ (z : Result ⊤ AssemblyError × List Float). z.0) c in let z : ◌≡◌ {A = ℕ} 0 1 = cc in absurd (omega arith)
+    steep (Err assembly_error.Short) e c b = let z : ◌≡◌ {A = ℕ} 0 1 = cc in absurd (omega arith)
+    steep (Err (assembly_error.BadEdge k why)) e c b = let z : ◌≡◌ {A = ℕ} 0 1 = cc in absurd (omega arith)
 
     pub assembled_made : Fits setup.manifold (dof_of setup.manifold * setup.free) l → Made setup l poses a w32'
     assembled_made fits =

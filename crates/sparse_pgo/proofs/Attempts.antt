@@ -1,10 +1,10 @@
 -- A solve of the system that stands in the work, and the trial of its step. Assumes nothing.
+use Rattle.solve.specs.declared.SolveError.TheVariants as solve_error
+use Rattle.solve.specs.declared.SolveError.{SolveError}
+use Rattle.std.specs.Prelude.{Err, Ok, Result, Some, ⊤}
 use mathlib.Core.Path.{◌≡◌, refl, sym, ap, ◌∙◌}
 use mathlib.Core.Bool.{Bool, true, false}
-use mathlib.Core.List.{List, [], ◌∷◌}
-use mathlib.Core.Logic.{⊎_elim}
-use types.Run.{OneOf}
-use denote.Enum.Declared.{tag_of}
+use mathlib.Core.List.{List}
 use Prim.Native.Nat.{ℕ, ◌+◌, ◌-◌, ◌*◌, ◌<◌, ◌≤◌}
 use native.Mathlib.Omega.{arith}
 use lib.ListN.{length, get_or}
@@ -15,10 +15,7 @@ use Rattle.numbers.proofs.Parted.{part_from, part_reads, length_part}
 use Rattle.graph.specs.Graph.{Links}
 use Rattle.graph.specs.Lent.{pose_at}
 use Rattle.graph.specs.declared.Edge.{Edge}
-use Rattle.graph.specs.declared.Slot.TheVariants.{Block}
 use Rattle.costs.specs.Costs.{cost_ends}
-use Rattle.solve.specs.declared.Solved.{Solved}
-use Rattle.solve.specs.declared.Solved.TheVariants.{Step, Failed, Short}
 use Rattle.solve.specs.Rule.{solvable, nothing}
 use Rattle.solve.specs.Work as solves
 use Rattle.profile.specs.Layout.{need, hessian_of}
@@ -39,37 +36,31 @@ use Rattle.sparse_pgo.specs.Parts.{numerics}
 use Rattle.sparse_pgo.specs.Numerics.{parts_on}
 use Rattle.sparse_pgo.specs.forms.Turns.{parts_in, held_in, Lent, Holds, accepts, Attempted}
 
--- a test for another answer
-pub no_step_told : (r : Solved) → OneOf (1 ∷ 2 ∷ []) (tag_of Rattle.solve.specs.contracts.Solved.the_type r) → r ≡ Step → ⊥
-no_step_told Step h e = ⊎_elim (λ (q : 0 ≡ 1). omega arith) (λ (q : 0 ≡ 2). omega arith) h
-no_step_told Failed h e = let z : ◌≡◌ {A = ℕ} 0 1 = cc in omega arith
-no_step_told Short h e = let z : ◌≡◌ {A = ℕ} 0 1 = cc in omega arith
-
 -- what an answer says of the rule
 module _ (w : List Float) (n : ℕ) (d : Float) (long : need n ≤ length w) where
   abbrev serves : Bool
   serves = solvable (hessian_of w n) (gradient_of w n) n d
 
-  solved_step : solved_as w n d ≡ Step → serves ≡ true
+  solved_step : solved_as w n d ≡ Ok tt → serves ≡ true
   unfolding if_then
   solved_step e = go serves (sym (answer_is w n d long) ∙ e)
     where
-      go : (b : Bool) → if_then b Step Failed ≡ Step → b ≡ true
+      go : (b : Bool) → ◌≡◌ {A = Result ⊤ SolveError} (if_then b (Ok tt) (Err solve_error.Failed)) (Ok tt) → b ≡ true
       go true h = refl
       go false h = let z : ◌≡◌ {A = ℕ} 0 1 = cc in absurd (omega arith)
 
-  solved_none : (solved_as w n d ≡ Step → ⊥) → serves ≡ false
+  solved_none : (solved_as w n d ≡ Ok tt → ⊥) → serves ≡ false
   unfolding if_then
   solved_none e = go serves (λ q. e (answer_is w n d long ∙ q))
     where
-      go : (b : Bool) → (if_then b Step Failed ≡ Step → ⊥) → b ≡ false
+      go : (b : Bool) → (◌≡◌ {A = Result ⊤ SolveError} (if_then b (Ok tt) (Err solve_error.Failed)) (Ok tt) → ⊥) → b ≡ false
       go true h = absurd (h refl)
       go false h = refl
 
-  none_failed : (solved_as w n d ≡ Step → ⊥) → solved_as w n d ≡ Failed
-  none_failed e = answer_is w n d long ∙ sym (left Step (solved_none e) refl)
+  none_failed : (solved_as w n d ≡ Ok tt → ⊥) → solved_as w n d ≡ Err solve_error.Failed
+  none_failed e = answer_is w n d long ∙ sym (left (Ok tt) (solved_none e) refl)
 
-module _ {setup : Setup} {l : Links Edge} (st : State) {w32 w32' before : List Float} {answer : Solved}
+module _ {setup : Setup} {l : Links Edge} (st : State) {w32 w32' before : List Float} {answer : Result ⊤ SolveError}
     (lent : Lent setup w32 before) (h : Holds setup l (held_in setup before) w32)
     (s : (answer ≡ solved_as w32 setup.n st.damping) × (w32' ≡ solves.leaves w32 setup.n st.damping (solved_as w32 setup.n st.damping))) where
   abbrev damping : Float
@@ -102,8 +93,8 @@ module _ {setup : Setup} {l : Links Edge} (st : State) {w32 w32' before : List F
   still x e = record { system = h.system; steps = x; is_system = h.is_system; work = e }
 
   -- no step
-  module _ (none : answer ≡ Step → ⊥) where
-    no_step_lem : solved_as h.system n damping ≡ Step → ⊥
+  module _ (none : answer ≡ Ok tt → ⊥) where
+    no_step_lem : solved_as h.system n damping ≡ Ok tt → ⊥
     no_step_lem q = none (said ∙ q)
 
     unsolvable : is_solvable ≡ false
@@ -117,7 +108,7 @@ module _ {setup : Setup} {l : Links Edge} (st : State) {w32 w32' before : List F
     attempt_failed k = record { answer = rw (h.is_system, unsolvable); held = refl; holds = still nothing left_so; long = k }
 
   -- a step, and its trial
-  module _ (some : answer ≡ Step) (sized : length w32' ≡ need setup.n) (below : (p b : ℕ) → l.slot p ≡ Block b → b < setup.free) where
+  module _ (some : answer ≡ Ok tt) (sized : length w32' ≡ need setup.n) (below : (p b : ℕ) → l.slot p ≡ Some b → b < setup.free) where
     can : is_solvable ≡ true
     can = solved_step h.system n damping long (sym said ∙ some)
 

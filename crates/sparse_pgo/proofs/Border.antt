@@ -1,4 +1,6 @@
 -- The border: what the checks leave known, what the lent numbers mean, and what a run leaves in them. Assumes nothing.
+use Rattle.sparse_pgo.specs.declared.Joined.{Joined}
+use Rattle.std.specs.Prelude.{Err, Ok, Result}
 use mathlib.Core.Path.{◌≡◌, refl, sym, ap, ap₂, ◌∙◌}
 use mathlib.Core.List.{List, ◌++◌}
 use Prim.Native.Nat.{ℕ, ◌+◌, ◌*◌, ◌^◌, ◌<◌, ◌≤◌}
@@ -20,15 +22,12 @@ use Rattle.graph.specs.declared.Manifold.{Manifold}
 use Rattle.graph.specs.declared.Manifold.TheVariants.{Se3, Gravity}
 use Rattle.rows.specs.declared.Settings.{Settings}
 use Rattle.checks.specs.declared.Counts.{Counts}
-use Rattle.checks.specs.declared.Checked.TheVariants as checked
 use Rattle.checks.specs.declared.Checks.{Checks}
 use Rattle.graph.proofs.Degrees.{dof_most}
 use Rattle.checks.proofs.Passed.{Passed, fit}
 use Rattle.retraction.specs.Retraction.{unit_of}
 use Rattle.profile.specs.Layout.{need}
 use Rattle.sparse_pgo.specs.declared.Setup.{Setup}
-use Rattle.sparse_pgo.specs.declared.Answer.{Answer}
-use Rattle.sparse_pgo.specs.declared.Answer.TheVariants as answer
 use Rattle.sparse_pgo.specs.Parts.{Parts, Whole, whole}
 use Rattle.sparse_pgo.specs.Numerics.{parts_on, parts_of}
 use Rattle.slices.specs.Slices.{zeroed}
@@ -39,17 +38,17 @@ use Rattle.checks.proofs.Slots.{links_same}
 -- ---- an input that passes the checks, with what they handed on and its degrees of freedom
 
 pub record Fitted (i : Input) (r : Checks) (c : Counts) (dof : ℕ) : Type 0 where
-  pub fits : (checks i).answer ≡ checked.Fit c
+  pub fits : (checks i).answer ≡ Ok c
   pub passed : Passed i
   pub poses_are : c.poses ≡ (graph_of i).poses
   pub free_are : c.free ≡ free_count (graph_of i)
   pub blocks_are : r.blocks ≡ blocks_of i
   pub dof_is : dof ≡ dof_of i.manifold
 
-pub fitted : (i : Input) (r : Checks) (c : Counts) (dof : ℕ) → r ≡ checks i → r.answer ≡ checked.Fit c → dof ≡ dof_of i.manifold → Fitted i r c dof
+pub fitted : (i : Input) (r : Checks) (c : Counts) (dof : ℕ) → r ≡ checks i → r.answer ≡ Ok c → dof ≡ dof_of i.manifold → Fitted i r c dof
 unfolding checks
 fitted i r c dof e q d =
-    let f : (checks i).answer ≡ checked.Fit c = ap (λ (z : Checks). z.answer) (sym e) ∙ q in
+    let f : (checks i).answer ≡ Ok c = ap (λ (z : Checks). z.answer) (sym e) ∙ q in
     record {
       fits = f;
       passed = (fit i c f).0;
@@ -91,8 +90,8 @@ module _ (manifold : Manifold) (poses : List Float) (ends : List ℕ) (edges : L
   lent_input = lent manifold poses ends edges fixed settings (record { work32 = length work32; work64 = length work64; out = length out })
 
   -- refused by the checks
-  pub run_turned : (r : Checks) (x : Refusal) → r ≡ checks lent_input → r.answer ≡ checked.Turned x
-      → record { answer = answer.Refused x; work32 = work32; work64 = work64; out = out } ≡ optimized lent_input work32 work64 out
+  pub run_turned : (r : Checks) (x : Refusal) → r ≡ checks lent_input → r.answer ≡ Err x
+      → record { answer = Err x; work32 = work32; work64 = work64; out = out } ≡ optimized lent_input work32 work64 out
   unfolding optimized
   run_turned r x e q = ap (after_checks lent_input work32 work64 out) (sym q ∙ ap (λ (z : Checks). z.answer) e)
 
@@ -142,7 +141,7 @@ module _ (manifold : Manifold) (poses : List Float) (ends : List ℕ) (edges : L
     cleared : (n k : ℕ) (w last : List Float) → n ≤ length w → last ≡ replicate (length (take n w)) (num 0) → n ≡ k → last ++ drop n w ≡ zeroed k w
     cleared n k w last h z t = ap (λ (v : List Float). v ++ drop n w) (z ∙ ap (λ (j : ℕ). replicate j (num 0)) (length-take-le n w h)) ∙ ap (λ (j : ℕ). zeroed j w) t
 
-    pub run_fit : (a : Answer) (last32 last64 lastOut : List Float)
+    pub run_fit : (a : Result Joined Refusal) (last32 last64 lastOut : List Float)
         → Begun setup (links_in setup ends edges r.blocks) poses (take (dof * c.free * (dof * c.free + 3)) work32) (take (24 * c.poses) work64) out a last32 last64 lastOut
         → record { answer = a; work32 = last32 ++ drop (dof * c.free * (dof * c.free + 3)) work32; work64 = last64 ++ drop (24 * c.poses) work64; out = lastOut }
         ≡ optimized lent_input work32 work64 out

@@ -1,5 +1,7 @@
 -- What a joined run says of its costs is so: the first is that of the poses given, the last that of the poses given back; so every active edge has a
 -- residual at both. For a first damping that is an f32. Assumes nothing.
+use Rattle.numbers.specs.declared.Refusal.{Refusal}
+use Rattle.std.specs.Prelude.{Err, None, Ok, Option, Result, is_some}
 use mathlib.Core.Path.{◌≡◌, refl, ap, subst, ◌∙◌}
 use mathlib.Core.Bool.{Bool, true, false, or-true}
 use mathlib.Core.List.{List}
@@ -12,28 +14,22 @@ use Rattle.numbers.specs.Notation.{if_then}
 use Rattle.numbers.specs.Walks.{Ended, done, stopped}
 use Rattle.numbers.proofs.Choices.{taken}
 use Rattle.numbers.proofs.Walking.{some_hit}
-use Rattle.graph.specs.Graph.{Graph, touches, is_free, slot_at, links_of, is_block, is_active}
+use Rattle.graph.specs.Graph.{Graph, touches, is_free, slot_at, links_of, is_active}
 use Rattle.graph.specs.Lent.{pose_at}
 use Rattle.checks.specs.Input.{Input, graph_of}
 use Rattle.checks.specs.Table.{checks}
 use Rattle.checks.specs.declared.Counts.{Counts}
-use Rattle.checks.specs.declared.Checked.{Checked}
-use Rattle.checks.specs.declared.Checked.TheVariants as checked
 use Rattle.rows.specs.declared.Settings.{Settings}
-use Rattle.graph.specs.declared.Slot.{Slot}
-use Rattle.graph.specs.declared.Slot.TheVariants.{Fixed}
 use Rattle.checks.proofs.Passed.{PassedSettings, fit}
 use Rattle.residual.specs.Residuals.{has_residual, residual_of}
 use Rattle.costs.proofs.HadCost.{cost_residuals}
 use Rattle.decisions.specs.Machine.{Play, played, state_of}
-use Rattle.decisions.specs.declared.End.TheVariants as end
 use Rattle.decisions.specs.declared.Next.{Next}
 use Rattle.decisions.specs.declared.Next.TheVariants as next
 use Rattle.decisions.specs.declared.Raw.TheVariants as raw
 use Rattle.decisions.proofs.Holding.{played_holds}
 use Rattle.sparse_pgo.specs.declared.Joined.{Joined}
 use Rattle.trials.specs.Trials.{priced_as}
-use Rattle.sparse_pgo.specs.declared.Answer.TheVariants as answer
 use Rattle.sparse_pgo.specs.Parts.{Parts, Found, step, no_step, trial_as, step_as, attempt_as, step_to, moved_to, numerics}
 use Rattle.sparse_pgo.specs.Parts.{joined_of, answer_of, whole_from, whole}
 use Rattle.sparse_pgo.specs.Numerics.{parts_on}
@@ -75,21 +71,21 @@ module _ {X S D : Type 0} (p : Parts X S D) where
     attempt_costs e = attempted (p.assembled x) e
 
   module _ (set : Settings) (ok : PassedSettings set) (f : T (fits binary32 set.damping)) (x : X) (j : Joined) where
-    last_cost : (c : Float) (y : Play X) → p.cost y.held ≡ done (state_of y.next).cost → answer_of c y.next ≡ answer.Joined j
+    last_cost : (c : Float) (y : Play X) → p.cost y.held ≡ done (state_of y.next).cost → answer_of c y.next ≡ Ok j
         → (c ≡ j.first_cost) × (p.cost y.held ≡ done j.last_cost)
     last_cost c y h = go y.next h
       where
-        go : (n : Next) → p.cost y.held ≡ done (state_of n).cost → answer_of c n ≡ answer.Joined j
+        go : (n : Next) → p.cost y.held ≡ done (state_of n).cost → answer_of c n ≡ Ok j
             → (c ≡ j.first_cost) × (p.cost y.held ≡ done j.last_cost)
         go (next.On s) h q = let z : ◌≡◌ {A = ℕ} 0 1 = cc in absurd (omega arith)
-        go (next.Over s (end.Refused r)) h q = let z : ◌≡◌ {A = ℕ} 0 1 = cc in absurd (omega arith)
-        go (next.Over s (end.Stopped w)) h q = let e : joined_of c s w ≡ j = cc in rw (← e) (refl, h)
+        go (next.Over s (Err r)) h q = let z : ◌≡◌ {A = ℕ} 0 1 = cc in absurd (omega arith)
+        go (next.Over s (Ok w)) h q = let e : joined_of c s w ≡ j = cc in rw (← e) (refl, h)
 
-    pub joined_costs_lem : (whole p set x).answer ≡ answer.Joined j → (p.cost x ≡ done j.first_cost) × (p.cost (whole p set x).held ≡ done j.last_cost)
+    pub joined_costs_lem : (whole p set x).answer ≡ Ok j → (p.cost x ≡ done j.first_cost) × (p.cost (whole p set x).held ≡ done j.last_cost)
     unfolding whole
     joined_costs_lem = go (p.cost x) refl
       where
-        go : (e : Ended Float) → p.cost x ≡ e → (whole_from p set x e).answer ≡ answer.Joined j
+        go : (e : Ended Float) → p.cost x ≡ e → (whole_from p set x e).answer ≡ Ok j
             → (p.cost x ≡ done j.first_cost) × (p.cost (whole_from p set x e).held ≡ done j.last_cost)
         go (stopped k why c) h q = let z : ◌≡◌ {A = ℕ} 0 1 = cc in absurd (omega arith)
         go (done c) h q =
@@ -102,11 +98,11 @@ module _ {X S D : Type 0} (p : Parts X S D) where
 -- ---- an edge one of whose ends is not fixed is active
 
 module _ {P M : Type 0} (g : Graph P M) (k : ℕ) (h : k < g.edges) where
-  unfixed_block : (x : ℕ) → touches g x k ≡ true → g.fixed x ≡ false → is_block (slot_at g x) ≡ true
+  unfixed_block : (x : ℕ) → touches g x k ≡ true → g.fixed x ≡ false → is_some (slot_at g x) ≡ true
   unfolding slot_at is_free
   unfixed_block x t n =
       let free : is_free g x ≡ true = rw (some_hit (touches g x) k g.edges h t, n) in
-      subst (λ (s : Slot). is_block s ≡ true) (taken Fixed free refl) refl
+      subst (λ (s : Option ℕ). is_some s ≡ true) (taken None free refl) refl
 
   pub active_by_a : g.fixed (g.a k) ≡ false → is_active (links_of g) k ≡ true
   unfolding links_of
@@ -116,20 +112,20 @@ module _ {P M : Type 0} (g : Graph P M) (k : ℕ) (h : k < g.edges) where
   unfolding links_of
   active_by_b n =
       let here : touches g (g.b k) k ≡ true = rw (eq-eqb (g.b k) (g.b k) refl) (or-true (eqb (g.a k) (g.b k))) in
-      let block : is_block (slot_at g (g.b k)) ≡ true = unfixed_block (g.b k) here n in
-      rw block (or-true (is_block (slot_at g (g.a k))))
+      let block : is_some (slot_at g (g.b k)) ≡ true = unfixed_block (g.b k) here n in
+      rw block (or-true (is_some (slot_at g (g.a k))))
 
 -- ---- of the public promise
 
-module _ (i : Input) (work32 work64 out : List Float) (j : Joined) (e : (optimized i work32 work64 out).answer ≡ answer.Joined j) where
-  pub joined_fit : (c : Counts) × ((checks i).answer ≡ checked.Fit c)
+module _ (i : Input) (work32 work64 out : List Float) (j : Joined) (e : (optimized i work32 work64 out).answer ≡ Ok j) where
+  pub joined_fit : (c : Counts) × ((checks i).answer ≡ Ok c)
   unfolding optimized
   joined_fit = go (checks i).answer refl e
     where
-      go : (v : Checked) → (checks i).answer ≡ v → (after_checks i work32 work64 out v).answer ≡ answer.Joined j
-          → (c : Counts) × ((checks i).answer ≡ checked.Fit c)
-      go (checked.Turned r) h q = let z : ◌≡◌ {A = ℕ} 0 1 = cc in absurd (omega arith)
-      go (checked.Fit c) h q = (c, h)
+      go : (v : Result Counts Refusal) → (checks i).answer ≡ v → (after_checks i work32 work64 out v).answer ≡ Ok j
+          → (c : Counts) × ((checks i).answer ≡ Ok c)
+      go (Err r) h q = let z : ◌≡◌ {A = ℕ} 0 1 = cc in absurd (omega arith)
+      go (Ok c) h q = (c, h)
 
   module _ (f : T (fits binary32 i.settings.damping)) where
     pub costs_so : ((run_parts i).cost i.poses ≡ done j.first_cost) × ((run_parts i).cost (optimized i work32 work64 out).out ≡ done j.last_cost)

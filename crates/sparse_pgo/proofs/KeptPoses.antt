@@ -2,6 +2,7 @@
 -- Assumes nothing.
 use Prim.Native.Nat.{ℕ, ◌+◌, ◌*◌, ◌/◌, ◌%◌, ◌<◌}
 use native.Mathlib.Omega.{arith}
+use Rattle.std.specs.Prelude.{None, Ok, Option, Some}
 use mathlib.Core.Path.{◌≡◌, refl, sym, ap, ◌∙◌}
 use mathlib.Core.Bool.{Bool, true, false, and-false}
 use mathlib.Core.List.{List}
@@ -16,15 +17,12 @@ use Rattle.numbers.proofs.Tables.{length_table, get_d_table}
 use Rattle.numbers.proofs.Walking.{some_hit, some_never}
 use Rattle.graph.specs.Graph.{Graph, touches, is_free, slot_at, block_of, links_of}
 use Rattle.graph.specs.declared.Manifold.{Manifold}
-use Rattle.graph.specs.declared.Slot.{Slot}
-use Rattle.graph.specs.declared.Slot.TheVariants.{Block, Fixed}
 use Rattle.rows.specs.declared.Settings.{Settings}
 use Rattle.checks.specs.Input.{Input, graph_of}
 use Rattle.retraction.specs.Retraction.{unit_of}
 use Rattle.decisions.proofs.Keeping.{played_keeps}
 use Rattle.trials.specs.Trials.{number_by, moved_numbers}
 use Rattle.sparse_pgo.specs.declared.Joined.{Joined}
-use Rattle.sparse_pgo.specs.declared.Answer.TheVariants as answer
 use Rattle.sparse_pgo.specs.Parts.{Parts, Found, step, no_step, step_to, moved_to, numerics, whole_from, whole}
 use Rattle.sparse_pgo.specs.Numerics.{parts_on, parts_of}
 use Rattle.sparse_pgo.specs.Optimize.{ran, optimized}
@@ -56,12 +54,12 @@ module _ {X S D : Type 0} (p : Parts X S D) (P : X → Type 0) (kept : (x : X) (
 
 -- ---- a trial keeps the count of the numbers, and each number of a pose whose slot is Fixed
 
-module _ (m : Manifold) (slot : ℕ → Slot) (l : List Float) (δ : ℕ → Float) where
+module _ (m : Manifold) (slot : ℕ → Option ℕ) (l : List Float) (δ : ℕ → Float) where
   trial_length : length (moved_numbers m slot l δ) ≡ length l
   unfolding moved_numbers
   trial_length = length_table _ _
 
-  module _ (x c : ℕ) (small : c < 12) (fixed : slot x ≡ Fixed) where
+  module _ (x c : ℕ) (small : c < 12) (fixed : slot x ≡ None) where
     abbrev at : ℕ
     at = x * 12 + c
 
@@ -85,9 +83,9 @@ module _ (m : Manifold) (slot : ℕ → Slot) (l : List Float) (δ : ℕ → Flo
 -- ---- a pose that is not free has the slot Fixed; fixed and edgeless poses are not free
 
 module _ {P M : Type 0} (g : Graph P M) (x : ℕ) where
-  unfree_slot : is_free g x ≡ false → slot_at g x ≡ Fixed
+  unfree_slot : is_free g x ≡ false → slot_at g x ≡ None
   unfolding slot_at
-  unfree_slot h = sym (left (Block (block_of g x)) h refl)
+  unfree_slot h = sym (left (Some (block_of g x)) h refl)
 
   fixed_unfree : g.fixed x ≡ true → is_free g x ≡ false
   unfolding is_free
@@ -102,7 +100,7 @@ module _ {P M : Type 0} (g : Graph P M) (x : ℕ) where
 
 -- ---- of the public promise
 
-module _ (i : Input) (work32 work64 out : List Float) (j : Joined) (e : (optimized i work32 work64 out).answer ≡ answer.Joined j) where
+module _ (i : Input) (work32 work64 out : List Float) (j : Joined) (e : (optimized i work32 work64 out).answer ≡ Ok j) where
   -- the output is what the run came to hold
   out_held : (optimized i work32 work64 out).out ≡ (ran i).held
   out_held =

@@ -1,4 +1,7 @@
 -- The turns one after the other: what the loop keeps, and what it knows at its end. Assumes nothing.
+use Rattle.numbers.specs.declared.Refusal.{Refusal}
+use Rattle.decisions.specs.declared.Why.{Why}
+use Rattle.std.specs.Prelude.{Result}
 use mathlib.Core.Path.{◌≡◌, sym, ap, ◌∙◌, subst}
 use mathlib.Core.Bool.{true, false}
 use mathlib.Core.List.{List}
@@ -15,7 +18,6 @@ use Rattle.decisions.specs.Damping.{lambda_max}
 use Rattle.decisions.specs.Run.{begun}
 use Rattle.decisions.specs.Machine.{Play, moved_on, state_of, played}
 use Rattle.decisions.specs.declared.State.{State}
-use Rattle.decisions.specs.declared.End.{End}
 use Rattle.decisions.specs.declared.Next.{Next}
 use Rattle.decisions.specs.declared.Next.TheVariants as next
 use Rattle.numbers.proofs.Order.{unsigned, le_of_not_lt}
@@ -103,7 +105,7 @@ module _ {setup : Setup} {l : Links Edge} {cost : Float} {first w32 w64 : List F
       pub turning_less : turns_left setup.settings.limit t < turns_left setup.settings.limit s
       turning_less = going_less (numerics (parts_in setup l)) limit tolerance cost damping (held_in setup first) s (held_in setup w64) g.going t (sym h.answer ∙ e)
 
-    pub turning_over : {t : State} {e : End} → r ≡ next.Over t e → Iterated setup l cost first (next.Over t e) w64'
+    pub turning_over : {t : State} {e : Result Why Refusal} → r ≡ next.Over t e → Iterated setup l cost first (next.Over t e) w64'
     turning_over {t} {e} q =
         let d = going_done (numerics (parts_in setup l)) limit tolerance cost damping (held_in setup first) s (held_in setup w64) g.going t e (sym h.answer ∙ q) in
         record {

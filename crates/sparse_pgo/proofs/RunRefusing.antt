@@ -1,5 +1,7 @@
 -- What it means that a run past the checks is refused, for rows 20 to 22: the run answers a refusal, of any number but 0, exactly where `RunRefuses` gives
 -- it; and the run of any input whose settings pass is over after its turns, so it answers no refusal of number 0. Assumes nothing.
+use Rattle.decisions.specs.declared.Why.{Why}
+use Rattle.std.specs.Prelude.{Err, Ok, Result}
 use mathlib.Core.Path.{◌≡◌, refl, sym, ap, subst, ◌∙◌}
 use mathlib.Core.Logic.{◌⊎◌, inl, inr}
 use mathlib.Core.Bool.{Bool, true, false, true≢false}
@@ -27,14 +29,11 @@ use Rattle.decisions.specs.Machine.{state_of, ended}
 use Rattle.decisions.specs.declared.State.{State}
 use Rattle.decisions.specs.declared.Assembly.TheVariants as assembly
 use Rattle.decisions.specs.declared.Raw.TheVariants as raw
-use Rattle.decisions.specs.declared.End.{End}
-use Rattle.decisions.specs.declared.End.TheVariants as end
 use Rattle.decisions.specs.declared.Next.{Next}
 use Rattle.decisions.specs.declared.Next.TheVariants as next
 use Rattle.decisions.proofs.Machines.{played_held, played_ends}
 use Rattle.decisions.proofs.Ending.{TopRefuses, SolveRefuses, turn_refuses, top_refuses, solve_refuses}
 use Rattle.decisions.proofs.Ending.{Ending, played_ending, solves_steep, ending_played, ending_tried, over_of}
-use Rattle.sparse_pgo.specs.declared.Answer.TheVariants as answer
 use Rattle.sparse_pgo.specs.Parts.{Parts, Found, step, no_step, assembly_of, trial_as, step_as, attempt_as, numerics, answer_of, whole_from, whole}
 use Rattle.sparse_pgo.specs.Numerics.{parts_on}
 use Rattle.sparse_pgo.specs.Optimize.{ran}
@@ -110,11 +109,11 @@ module _ {X S D : Type 0} (p : Parts X S D) (x : X) where
 abbrev Told : Next → Refusal → Type 0
 Told n r = (s : State) → n ≡ next.On s → refusal 0 0 ≡ r → ⊥
 
-answer_refused : (first : Float) (n : Next) (r : Refusal) → Told n r → answer_of first n ≡ answer.Refused r
-    → (s : State) × (n ≡ next.Over s (end.Refused r))
+answer_refused : (first : Float) (n : Next) (r : Refusal) → Told n r → answer_of first n ≡ Err r
+    → (s : State) × (n ≡ next.Over s (Err r))
 answer_refused first (next.On s) r t q = let d : refusal 0 0 ≡ r = cc in absurd (t s refl d)
-answer_refused first (next.Over s (end.Stopped w)) r t q = let z : ◌≡◌ {A = ℕ} 0 1 = cc in absurd (omega arith)
-answer_refused first (next.Over s (end.Refused q)) r t h = let d : q ≡ r = cc in (s, ap (λ (q : Refusal). next.Over s (end.Refused q)) d)
+answer_refused first (next.Over s (Ok w)) r t q = let z : ◌≡◌ {A = ℕ} 0 1 = cc in absurd (omega arith)
+answer_refused first (next.Over s (Err q)) r t h = let d : q ≡ r = cc in (s, ap (λ (q : Refusal). next.Over s (Err q)) d)
 
 over_told : (n : Next) (r : Refusal) → ended n ≡ true → Told n r
 over_told n r e s h d = let z : false ≡ true = ap ended (sym h) ∙ e in absurd (true≢false (sym z))
@@ -124,11 +123,11 @@ numbered_told n r l s h d = let z : 0 ≡ r.number = ap (λ (r : Refusal). r.num
 
 module _ (i : Input) where
   -- how the run of this input from a first cost ended
-  abbrev RunEnds : Float → State → End → Type 0
+  abbrev RunEnds : Float → State → Result Why Refusal → Type 0
   RunEnds first t w =
       Ending (numerics (run_parts i)) i.settings.limit i.settings.cost_tolerance first i.settings.damping i.poses t w
 
-  last_turn : (first : Float) (t : State) (w : End) → last_of i first ≡ next.Over t w → RunEnds first t w
+  last_turn : (first : Float) (t : State) (w : Result Why Refusal) → last_of i first ≡ next.Over t w → RunEnds first t w
   last_turn first t w =
       played_ending (numerics (run_parts i)) i.settings.limit i.settings.cost_tolerance first i.settings.damping i.poses t w
 
@@ -137,7 +136,7 @@ module _ (i : Input) where
     unfolding ran whole
     ran_answer = ap (λ (e : Ended Float). (whole_from (run_parts i) i.settings i.poses e).answer) had
 
-    module _ (t : State) (r : Refusal) (e : RunEnds first t (end.Refused r)) where
+    module _ (t : State) (r : Refusal) (e : RunEnds first t (Err r)) where
       on : GoesOn i e.state e.held
       on = record { first = first; had = had; turns = e.turns; come_to = e.before }
 
@@ -184,27 +183,27 @@ module _ (i : Input) where
           go (inl h) = by_top h
           go (inr h) = by_solve h
 
-    later_refused : (r : Refusal) → Told (last_of i first) r → (ran i).answer ≡ answer.Refused r → RunRefuses i r
+    later_refused : (r : Refusal) → Told (last_of i first) r → (ran i).answer ≡ Err r → RunRefuses i r
     later_refused r told q =
         let (t, over) = answer_refused first (last_of i first) r told (sym ran_answer ∙ q) in
-        last_refuses t r (last_turn first t (end.Refused r) over)
+        last_refuses t r (last_turn first t (Err r) over)
 
-  unpriced : (k : ℕ) (why : Failure) (c : Float) → (run_parts i).cost i.poses ≡ stopped k why c → (ran i).answer ≡ answer.Refused (refusal 20 k)
+  unpriced : (k : ℕ) (why : Failure) (c : Float) → (run_parts i).cost i.poses ≡ stopped k why c → (ran i).answer ≡ Err (refusal 20 k)
   unfolding ran whole
   unpriced k Numerical c h = ap (λ (e : Ended Float). (whole_from (run_parts i) i.settings i.poses e).answer) h
 
-  told_refused : (r : Refusal) → ((first : Float) → Told (last_of i first) r) → (ran i).answer ≡ answer.Refused r → RunRefuses i r
+  told_refused : (r : Refusal) → ((first : Float) → Told (last_of i first) r) → (ran i).answer ≡ Err r → RunRefuses i r
   told_refused r told q = go ((run_parts i).cost i.poses) refl
     where
       go : (e : Ended Float) → (run_parts i).cost i.poses ≡ e → RunRefuses i r
       go (done c) h = later_refused c h r (told c) q
       go (stopped k why c) h =
-          let said : answer.Refused (refusal 20 k) ≡ answer.Refused r = sym (unpriced k why c h) ∙ q in
+          let said : Err (refusal 20 k) ≡ Err r = sym (unpriced k why c h) ∙ q in
           let d : refusal 20 k ≡ r = cc in
           subst (RunRefuses i) d (row_20 (record { why = why; left = c; cost = h }))
 
   -- a run that is refused, by any number but 0, is refused by its row
-  pub numbered_refused : (r : Refusal) → 0 < r.number → (ran i).answer ≡ answer.Refused r → RunRefuses i r
+  pub numbered_refused : (r : Refusal) → 0 < r.number → (ran i).answer ≡ Err r → RunRefuses i r
   numbered_refused r l q = told_refused r (λ first. numbered_told (last_of i first) r l) q
 
   -- ---- the place of 20 and 21 is an edge
@@ -234,19 +233,19 @@ module _ (i : Input) where
         ok.most_limit f ok.damping_above at_most
 
     -- a run that is refused is refused by its row
-    pub run_refused : (r : Refusal) → (ran i).answer ≡ answer.Refused r → RunRefuses i r
+    pub run_refused : (r : Refusal) → (ran i).answer ≡ Err r → RunRefuses i r
     run_refused r q = told_refused r (λ first. over_told (last_of i first) r (is_over first)) q
 
-    over_refused : (first : Float) → (run_parts i).cost i.poses ≡ done first → (t : State) (r : Refusal) → RunEnds first t (end.Refused r)
-        → (ran i).answer ≡ answer.Refused r
+    over_refused : (first : Float) → (run_parts i).cost i.poses ≡ done first → (t : State) (r : Refusal) → RunEnds first t (Err r)
+        → (ran i).answer ≡ Err r
     over_refused first had t r e =
-        let over : last_of i first ≡ next.Over t (end.Refused r)
+        let over : last_of i first ≡ next.Over t (Err r)
         = ending_played (numerics (run_parts i)) i.settings.limit i.settings.cost_tolerance first i.settings.damping i.poses
-        ok.most_limit f ok.damping_above at_most t (end.Refused r) e in
+        ok.most_limit f ok.damping_above at_most t (Err r) e in
         ran_answer first had ∙ ap (answer_of first) over
 
     -- its row gives the refusal
-    pub refuses_run : (r : Refusal) → RunRefuses i r → (ran i).answer ≡ answer.Refused r
+    pub refuses_run : (r : Refusal) → RunRefuses i r → (ran i).answer ≡ Err r
     refuses_run r (row_20 {k} n) = unpriced k n.why n.left n.cost
     refuses_run r (row_21 {k} n) =
         over_refused n.on.first n.on.had n.state (refusal 21 k)

@@ -1,4 +1,7 @@
 -- From the first cost to the end, and what is left in the lent numbers. Assumes nothing.
+use Rattle.costs.specs.declared.BadEdge.{BadEdge}
+use Rattle.decisions.specs.declared.Why.{Why}
+use Rattle.std.specs.Prelude.{Err, Ok, Result}
 use mathlib.Core.Path.{◌≡◌, sym, ap, ◌∙◌}
 use mathlib.Core.List.{List, ◌++◌}
 use Prim.Native.Nat.{ℕ, ◌+◌, ◌*◌, ◌-◌, ◌<◌, ◌≤◌}
@@ -17,20 +20,15 @@ use Rattle.graph.specs.Graph.{Links}
 use Rattle.graph.specs.Lent.{pose_at}
 use Rattle.graph.specs.declared.Edge.{Edge}
 use Rattle.costs.specs.Costs.{cost_ends, cost_of}
-use Rattle.costs.specs.declared.Cost.{Cost}
-use Rattle.costs.specs.declared.Cost.TheVariants as cost
 use Rattle.decisions.specs.Run.{iterations}
 use Rattle.decisions.specs.Machine.{state_of, played}
 use Rattle.decisions.specs.Demand.{Held}
 use Rattle.decisions.specs.declared.State.{State}
-use Rattle.decisions.specs.declared.End.{End}
 use Rattle.decisions.specs.declared.Next.{Next}
 use Rattle.decisions.specs.declared.Next.TheVariants as next
 use Rattle.decisions.proofs.Machines.{played_held}
 use Rattle.sparse_pgo.specs.declared.Setup.{Setup}
 use Rattle.sparse_pgo.specs.declared.Joined.{Joined}
-use Rattle.sparse_pgo.specs.declared.Answer.{Answer}
-use Rattle.sparse_pgo.specs.declared.Answer.TheVariants as answer
 use Rattle.sparse_pgo.specs.Parts.{Whole, numerics, answer_of, whole, whole_from}
 use Rattle.sparse_pgo.specs.Numerics.{parts_on}
 use Rattle.sparse_pgo.specs.Optimize.{given}
@@ -42,7 +40,7 @@ use Rattle.sparse_pgo.proofs.Looping.{Iterated, not_above}
 
 -- ---- the answer, as the code comes by it
 
-pub counted : {n : Next} {s : State} {e : End} → n ≡ next.Over s e → iterations (state_of n) < 4294967296 → s.accepted + s.rejected < 4294967296
+pub counted : {n : Next} {s : State} {e : Result Why Refusal} → n ≡ next.Over s e → iterations (state_of n) < 4294967296 → s.accepted + s.rejected < 4294967296
 counted q h = rw q at h
 
 -- ---- from the first cost on
@@ -58,7 +56,7 @@ counts_fit {setup} {l} {before} {after} {c} {r} start f h =
     let few : setup.settings.limit ≤ 1000 = start.limited in
     omega arith
 
-module _ (setup : Setup) (l : Links Edge) (before : List Float) {found : Cost} (e : found ≡ cost_of l (pose_at (take (setup.poses * 12) before))) where
+module _ (setup : Setup) (l : Links Edge) (before : List Float) {found : Result Float BadEdge} (e : found ≡ cost_of l (pose_at (take (setup.poses * 12) before))) where
   abbrev run : Whole (List Float)
   run = whole (parts_in setup l) setup.settings (held_in setup before)
 
@@ -66,15 +64,15 @@ module _ (setup : Setup) (l : Links Edge) (before : List Float) {found : Cost} (
   unfolding whole parts_on
   whole_is d q = rw q
 
-  pub start_bad : {k : ℕ} {why : Failure} → found ≡ cost.Bad k why → Started setup l before (answer.Refused (refusal 20 k)) before
+  pub start_bad : {k : ℕ} {why : Failure} → found ≡ Err (record { edge = k; why = why }) → Started setup l before (Err (refusal 20 k)) before
   start_bad {k} {why} q = go why q
     where
-      go : (why : Failure) → found ≡ cost.Bad k why → Started setup l before (answer.Refused (refusal 20 k)) before
+      go : (why : Failure) → found ≡ Err (record { edge = k; why = why }) → Started setup l before (Err (refusal 20 k)) before
       go Numerical q =
           let w = sym (whole_is _ (cost_bad l _ found e k Numerical q).ends) in
           record { answer = ap (λ (y : Whole (List Float)). y.answer) w; held = ap (λ (y : Whole (List Float)). y.held) w }
 
-  pub start_goes : {c : Float} {n : Next} {r : Answer} {after : List Float} → found ≡ cost.Of c → Iterated setup l c before n after → r ≡ answer_of c n → Started setup l before r after
+  pub start_goes : {c : Float} {n : Next} {r : Result Joined Refusal} {after : List Float} → found ≡ Ok c → Iterated setup l c before n after → r ≡ answer_of c n → Started setup l before r after
   start_goes {c} q h a =
       let w = sym (whole_is _ (cost_had l _ found e c q)) in
       record {
@@ -105,7 +103,7 @@ module _ {setup : Setup} {poses w64 in64 : List Float} (h : CopiedIn setup poses
   pub in_lent : {w32 : List Float} → Lent setup w32 w64 → Lent setup w32 in64
   in_lent lent = record { sized = lent.sized; single = lent.single; double = h.long ∙ lent.double }
 
-  module _ {l : Links Edge} {a : Answer} {mid64 : List Float} (s : Started setup l in64 a mid64) (l64 : length mid64 ≡ length in64)
+  module _ {l : Links Edge} {a : Result Joined Refusal} {mid64 : List Float} (s : Started setup l in64 a mid64) (l64 : length mid64 ≡ length in64)
       (w32 mid32 last32 last64 out : List Float) (l32 : length mid32 ≡ length w32)
       (z32 : last32 ≡ replicate (length mid32) (num 0)) (z64 : last64 ≡ replicate (length mid64) (num 0)) where
     abbrev came : Whole (List Float)
@@ -126,9 +124,9 @@ module _ {setup : Setup} {poses w64 in64 : List Float} (h : CopiedIn setup poses
           output = o ∙ ap (given out came) answered;
         }
 
-    pub begun_joined : (j : Joined) (last : List Float) → a ≡ answer.Joined j → length out ≡ length (take (setup.poses * 12) mid64)
+    pub begun_joined : (j : Joined) (last : List Float) → a ≡ Ok j → length out ≡ length (take (setup.poses * 12) mid64)
         → last ≡ copied (take (setup.poses * 12) mid64) out → Begun setup l poses w32 w64 out a last32 last64 last
     begun_joined j last q k o = ends_with last (o ∙ copied_whole (take (setup.poses * 12) mid64) out k ∙ come_to ∙ ap (given out came) (sym q))
 
-    pub begun_refused : (r : Refusal) (last : List Float) → a ≡ answer.Refused r → last ≡ out → Begun setup l poses w32 w64 out a last32 last64 last
+    pub begun_refused : (r : Refusal) (last : List Float) → a ≡ Err r → last ≡ out → Begun setup l poses w32 w64 out a last32 last64 last
     begun_refused r last q o = ends_with last (o ∙ ap (given out came) (sym q))

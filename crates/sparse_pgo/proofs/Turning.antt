@@ -1,4 +1,7 @@
 -- A turn of the run: what follows a solve, and the top. Assumes nothing.
+use Rattle.numbers.specs.declared.Refusal.{Refusal}
+use Rattle.decisions.specs.declared.Why.{Why}
+use Rattle.std.specs.Prelude.{None, Ok, Option, Result, Some}
 use mathlib.Core.Path.{◌≡◌, refl, sym, ap, ◌∙◌, subst}
 use mathlib.Core.Bool.{Bool, true, false}
 use mathlib.Core.List.{List}
@@ -22,11 +25,7 @@ use Rattle.decisions.specs.declared.Assembly.{Assembly}
 use Rattle.decisions.specs.declared.Assembly.TheVariants as assembly
 use Rattle.decisions.specs.declared.Outcome.{Outcome}
 use Rattle.decisions.specs.declared.Outcome.TheVariants as outcome
-use Rattle.decisions.specs.declared.Gate.{Gate}
-use Rattle.decisions.specs.declared.Gate.TheVariants as gate
 use Rattle.decisions.specs.declared.Why.TheVariants as why
-use Rattle.decisions.specs.declared.End.{End}
-use Rattle.decisions.specs.declared.End.TheVariants as end
 use Rattle.decisions.specs.declared.Next.{Next}
 use Rattle.decisions.specs.declared.Next.TheVariants as next
 use Rattle.decisions.proofs.Ways.{turned_stop, turned_go, passed_again}
@@ -77,17 +76,17 @@ module _ (limit : ℕ) (tolerance : Float) (s : State) where
   same_system (outcome.Tried (trial.Rejected w)) t e f = refl
 
   -- ---- the top
-  go_steep : (a : Assembly) → s.fresh ≡ true → passed limit s a ≡ gate.Go → a ≡ assembly.Steep
+  go_steep : (a : Assembly) → s.fresh ≡ true → passed limit s a ≡ None → a ≡ assembly.Steep
   unfolding passed if_then assembled
   go_steep a f = rw f (at (leb limit (iterations s)) a)
     where
-      at : (b : Bool) (a : Assembly) → if_then b (gate.Stop (end.Stopped why.Budget)) (assembled a) ≡ gate.Go → a ≡ assembly.Steep
+      at : (b : Bool) (a : Assembly) → if_then b (Some (Ok why.Budget)) (assembled a) ≡ None → a ≡ assembly.Steep
       at true a e = let z : ◌≡◌ {A = ℕ} 0 1 = cc in absurd (omega arith)
       at false (assembly.Refused r) e = let z : ◌≡◌ {A = ℕ} 0 1 = cc in absurd (omega arith)
       at false assembly.Flat e = let z : ◌≡◌ {A = ℕ} 0 1 = cc in absurd (omega arith)
       at false assembly.Steep e = refl
 
-  limit_stops : (a : Assembly) → s.fresh ≡ true → leb limit (iterations s) ≡ true → passed limit s a ≡ gate.Stop (end.Stopped why.Budget)
+  limit_stops : (a : Assembly) → s.fresh ≡ true → leb limit (iterations s) ≡ true → passed limit s a ≡ Some (Ok why.Budget)
   unfolding passed if_then
   limit_stops a f e = rw (f, e)
 
@@ -98,12 +97,12 @@ module _ (setup : Setup) (l : Links Edge) (s : State) (x : List Float) where
   due = (numerics (parts_in setup l)).assemble x
 
   -- the system stands in the work already
-  pub top_again : {w32 : List Float} → length w32 ≡ need setup.n → s.fresh ≡ false → AtTop setup l s x w32 → PassedTop setup l s x gate.Go w32
+  pub top_again : {w32 : List Float} → length w32 ≡ need setup.n → s.fresh ≡ false → AtTop setup l s x w32 → PassedTop setup l s x None w32
   top_again long f r = record { long = long; answer = sym (passed_again setup.settings.limit setup.settings.cost_tolerance s due f); holds = λ _. r f }
 
   -- at the limit nothing is assembled
   pub top_limit : {w32 : List Float} → length w32 ≡ need setup.n → s.fresh ≡ true → leb setup.settings.limit (iterations s) ≡ true
-      → PassedTop setup l s x (gate.Stop (end.Stopped why.Budget)) w32
+      → PassedTop setup l s x (Some (Ok why.Budget)) w32
   top_limit long f q =
       record {
         long = long;
@@ -112,7 +111,7 @@ module _ (setup : Setup) (l : Links Edge) (s : State) (x : List Float) where
       }
 
   -- after an assembly
-  pub top_made : {w32 : List Float} {a : Assembly} {g : Gate} → s.fresh ≡ true → Made setup l x a w32 → g ≡ passed setup.settings.limit s a → PassedTop setup l s x g w32
+  pub top_made : {w32 : List Float} {a : Assembly} {g : Option (Result Why Refusal)} → s.fresh ≡ true → Made setup l x a w32 → g ≡ passed setup.settings.limit s a → PassedTop setup l s x g w32
   unfolding numerics
   top_made {w32} {a} {g} f m q =
       record {
@@ -123,7 +122,7 @@ module _ (setup : Setup) (l : Links Edge) (s : State) (x : List Float) where
 
 -- ---- a turn
 
-module _ {setup : Setup} {l : Links Edge} {s : State} (before : List Float) {w32 : List Float} {g : Gate} (p : PassedTop setup l s (held_in setup before) g w32) where
+module _ {setup : Setup} {l : Links Edge} {s : State} (before : List Float) {w32 : List Float} {g : Option (Result Why Refusal)} (p : PassedTop setup l s (held_in setup before) g w32) where
   abbrev limit : ℕ
   limit = setup.settings.limit
 
@@ -138,7 +137,7 @@ module _ {setup : Setup} {l : Links Edge} {s : State} (before : List Float) {w32
   a = (numerics (parts_in setup l)).assemble x
 
   -- the top stops the run, and nothing has moved
-  pub turn_stop : {e : End} → g ≡ gate.Stop e → Turned setup l s before (next.Over s e) w32 before
+  pub turn_stop : {e : Result Why Refusal} → g ≡ Some e → Turned setup l s before (next.Over s e) w32 before
   unfolding moved_on
   turn_stop {e} k =
       record {
@@ -149,7 +148,7 @@ module _ {setup : Setup} {l : Links Edge} {s : State} (before : List Float) {w32
       }
 
   -- a solve follows the top
-  pub turn_go : s.accepted < 4294967295 → g ≡ gate.Go → {o : Outcome} {w32' after : List Float} {r : Next} → Attempted setup l s before o w32' after
+  pub turn_go : s.accepted < 4294967295 → g ≡ None → {o : Outcome} {w32' after : List Float} {r : Next} → Attempted setup l s before o w32' after
       → r ≡ solved s setup.settings.limit setup.settings.cost_tolerance o → Turned setup l s before r w32' after
   unfolding moved_on
   turn_go few k {o} {w32'} {after} {r} h e =

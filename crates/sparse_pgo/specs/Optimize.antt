@@ -1,12 +1,13 @@
 -- What a run answers, and what it leaves in every lent number, for every input: document 01, "Numbers lent and given back", "What is turned down".
 -- Definitions only.
-use Rattle.std.specs.Prelude.{ℕ, ◌*◌, List, length, Float}
+use Rattle.sparse_pgo.specs.declared.Joined.{Joined}
+use Rattle.numbers.specs.declared.Refusal.{Refusal}
+use Rattle.checks.specs.declared.Counts.{Counts}
+use Rattle.std.specs.Prelude.{ℕ, ◌*◌, List, length, Float, Err, Ok, Result}
 use Rattle.graph.specs.Graph.{free_count}
 use Rattle.graph.specs.Lent.{dof_of}
 use Rattle.checks.specs.Input.{Input, lent, graph_of}
 use Rattle.checks.specs.Table.{checks}
-use Rattle.checks.specs.declared.Checked.{Checked}
-use Rattle.checks.specs.declared.Checked.TheVariants as checked
 use Rattle.graph.specs.declared.Manifold.{Manifold}
 use Rattle.rows.specs.declared.Settings.{Settings}
 use Rattle.retraction.specs.Retraction.{unit_of}
@@ -14,28 +15,26 @@ use Rattle.profile.specs.Layout.{need}
 use Rattle.slices.specs.Slices.{zeroed}
 use Rattle.sparse_pgo.specs.Parts.{Whole, whole}
 use Rattle.sparse_pgo.specs.Numerics.{parts_of}
-use Rattle.sparse_pgo.specs.declared.Answer.{Answer}
-use Rattle.sparse_pgo.specs.declared.Answer.TheVariants as answer
 
 -- the run of an input that passes the checks: the answer, and the poses that it came to
 unfoldable pub ran : Input → Whole (List Float)
 ran i = whole (parts_of (unit_of i.manifold) i.settings (graph_of i)) i.settings i.poses
 
 -- the output: the poses of a success; as found where refused
-abbrev pub given : List Float → Whole (List Float) → Answer → List Float
-given out w (answer.Joined j) = w.held
-given out w (answer.Refused r) = out
+abbrev pub given : List Float → Whole (List Float) → Result Joined Refusal → List Float
+given out w (Ok j) = w.held
+given out w (Err r) = out
 
 -- an answer, and the final contents of work32, work64 and the output
 pub record After : Type 0 where
-  pub answer : Answer
+  pub answer : Result Joined Refusal
   pub work32 : List Float
   pub work64 : List Float
   pub out : List Float
 
-abbrev pub after_checks : Input → List Float → List Float → List Float → Checked → After
-after_checks i work32 work64 out (checked.Turned r) = record { answer = answer.Refused r; work32 = work32; work64 = work64; out = out }
-after_checks i work32 work64 out (checked.Fit c) =
+abbrev pub after_checks : Input → List Float → List Float → List Float → Result Counts Refusal → After
+after_checks i work32 work64 out (Err r) = record { answer = Err r; work32 = work32; work64 = work64; out = out }
+after_checks i work32 work64 out (Ok c) =
     record {
       answer = (ran i).answer;
       work32 = zeroed (need (dof_of i.manifold * free_count (graph_of i))) work32;

@@ -1,6 +1,7 @@
 -- The run from its parts: first cost, assembly, solve, trial, over whatever holds the poses, on the machine of `decisions`.
 -- Document 01, "The solve and the run". X holds the poses, S is a system, D a step. Definitions only.
-use Rattle.std.specs.Prelude.{ℕ, Bool, true, false, Float}
+use Rattle.numbers.specs.declared.Refusal.{Refusal}
+use Rattle.std.specs.Prelude.{ℕ, Bool, true, false, Float, Err, Ok, Result}
 use Rattle.numbers.specs.Notation.{if_then}
 use Rattle.numbers.specs.Walks.{Ended, done, stopped}
 use Rattle.numbers.specs.Refusals.{refusal}
@@ -17,14 +18,10 @@ use Rattle.decisions.specs.declared.Raw.{Raw}
 use Rattle.decisions.specs.declared.Raw.TheVariants as raw
 use Rattle.decisions.specs.declared.Why.{Why}
 use Rattle.decisions.specs.declared.Why.TheVariants as why
-use Rattle.decisions.specs.declared.End.{End}
-use Rattle.decisions.specs.declared.End.TheVariants as end
 use Rattle.decisions.specs.declared.Next.{Next}
 use Rattle.decisions.specs.declared.Next.TheVariants as next
 use Rattle.trials.specs.Trials.{tried_as}
 use Rattle.sparse_pgo.specs.declared.Joined.{Joined}
-use Rattle.sparse_pgo.specs.declared.Answer.{Answer}
-use Rattle.sparse_pgo.specs.declared.Answer.TheVariants as answer
 
 pub data Found (D : Type 0) : Type 0 where
   step : D → Found D
@@ -106,19 +103,19 @@ joined_after n first s w =
 abbrev pub joined_of : Float → State → Why → Joined
 joined_of first s w = joined_after (iterations s) first s w
 
-abbrev pub answer_after : ℕ → Float → State → End → Answer
-answer_after n first s (end.Stopped w) = answer.Joined (joined_after n first s w)
-answer_after n first s (end.Refused r) = answer.Refused r
+abbrev pub answer_after : ℕ → Float → State → Result Why Refusal → Result Joined Refusal
+answer_after n first s (Ok w) = Ok (joined_after n first s w)
+answer_after n first s (Err r) = Err r
 
 -- (a run over `enough` turns has ended: `played_ends` of decisions. So the first line is never used.)
-abbrev pub answer_of : Float → Next → Answer
-answer_of first (next.On s) = answer.Refused (refusal 0 0)
+abbrev pub answer_of : Float → Next → Result Joined Refusal
+answer_of first (next.On s) = Err (refusal 0 0)
 answer_of first (next.Over s e) = answer_after (iterations s) first s e
 
 -- ---- the whole run: first cost (20), then the machine
 
 pub record Whole (X : Type 0) : Type 0 where
-  pub answer : Answer
+  pub answer : Result Joined Refusal
   pub held : X
 
 module _ {X S D : Type 0} (p : Parts X S D) (set : Settings) where
@@ -127,7 +124,7 @@ module _ {X S D : Type 0} (p : Parts X S D) (set : Settings) where
 
   abbrev pub whole_from : X → Ended Float → Whole X
   whole_from x (done c) = ran_from c (played (numerics p) set.limit set.cost_tolerance c set.damping x)
-  whole_from x (stopped k why c) = record { answer = answer.Refused (refusal (cost_row why) k); held = x }
+  whole_from x (stopped k why c) = record { answer = Err (refusal (cost_row why) k); held = x }
 
   unfoldable pub whole : X → Whole X
   whole x = whole_from x (p.cost x)

@@ -1,5 +1,7 @@
 -- Rows 20 to 22, of a run past the checks: document 01, "What is turned down, and in what order". Definitions only.
-use Rattle.std.specs.Prelude.{ℕ, ◌<◌, ◌≡◌, true, List, Float}
+use Rattle.sparse_pgo.specs.declared.Joined.{Joined}
+use Rattle.decisions.specs.declared.Why.{Why}
+use Rattle.std.specs.Prelude.{ℕ, ◌<◌, ◌≡◌, true, List, Float, None, Result}
 use Rattle.std.specs.Float.Ieee.{lt}
 use Rattle.numbers.specs.Walks.{done, stopped}
 use Rattle.numbers.specs.Refusals.{refusal}
@@ -12,11 +14,8 @@ use Rattle.decisions.specs.Run.{begun, iterations, passed}
 use Rattle.decisions.specs.Machine.{Play, play, enough}
 use Rattle.decisions.specs.Demand.{Held, solves_tried}
 use Rattle.decisions.specs.declared.State.{State}
-use Rattle.decisions.specs.declared.Gate.TheVariants as gate
-use Rattle.decisions.specs.declared.End.{End}
 use Rattle.decisions.specs.declared.Next.{Next}
 use Rattle.decisions.specs.declared.Next.TheVariants as next
-use Rattle.sparse_pgo.specs.declared.Answer.{Answer}
 use Rattle.sparse_pgo.specs.Parts.{Parts, no_step, numerics, answer_after}
 use Rattle.sparse_pgo.specs.Numerics.{parts_of}
 
@@ -61,7 +60,7 @@ pub record Overdamped (i : Input) : Type 0 where
   pub state : State
   pub held : List Float
   pub on : GoesOn i state held
-  pub to_solve : passed i.settings.limit state ((numerics (run_parts i)).assemble held) ≡ gate.Go
+  pub to_solve : passed i.settings.limit state ((numerics (run_parts i)).assemble held) ≡ None
   pub system : List Float
   pub assembly : (run_parts i).assembled held ≡ done system
   pub failed : (run_parts i).solve system state.damping ≡ no_step
@@ -74,9 +73,9 @@ pub data RunRefuses (i : Input) : Refusal → Type 0 where
   row_22 : Overdamped i → RunRefuses i (refusal 22 0)
 
 -- demand 3, of a run that had its first cost and gave the answer a: it is over, in a state that keeps the demand's bounds, and a says how it ended
-pub record EndedRun (i : Input) (first : Float) (a : Answer) : Type 0 where
+pub record EndedRun (i : Input) (first : Float) (a : Result Joined Refusal) : Type 0 where
   pub state : State
-  pub how : End
+  pub how : Result Why Refusal
   pub last : last_of i first ≡ next.Over state how
   pub said : a ≡ answer_after (iterations state) first state how
   pub held : Held i.settings.limit first state

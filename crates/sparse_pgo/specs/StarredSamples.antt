@@ -7,7 +7,7 @@ use Rattle.rounding.specs.Rounding.{rounded}
 use Rattle.roots.specs.Roots.{rooted}
 use Rattle.rounding.specs.Samples.{narrowed_bits}
 use Rattle.roots.specs.Samples as roots
-use Rattle.rotations.specs.declared.Transform.{Transform}
+use Rattle.rotations.specs.Formats.{Transform}
 use Rattle.rotations.specs.Rotation.{dot, cross, plus, times, wide, over}
 use Rattle.exp_log.specs.ExpLog.{series, bent, upright, halved, arc_series, angle_of, unbend, log_wide, narrowed_twist, log_of}
 use Rattle.exp_log.specs.Samples as exp-log

@@ -10,15 +10,12 @@ ghost use Rattle.sparse_pgo.specs.Optimize.{optimized_on};
 ghost use Rattle.sparse_pgo.specs.forms.Turns.{links_in, held_in, Sized, Lent, Holds, AtTop, assembly_in};
 ghost use Rattle.sparse_pgo.specs.forms.Turns.{PassedTop, Attempted, Turned, Startable, Started, Begun};
 
-use assembly::Assembled;
-use checks::Checked;
-use costs::Cost;
-use decisions::{Assembly, End, Gate, Next, Outcome, State, Why};
+use assembly::AssemblyError;
+use decisions::{Assembly, Next, Outcome, State, Why};
 use graph::Manifold;
 use numbers::Refusal;
 use rotations::Vec3;
 use rows::{Room, Settings};
-use solve::Solved;
 
 // A finished run: iterations are A + R; Gradient, Step and Cost have converged.
 #[derive(Clone, Copy)]
@@ -31,12 +28,6 @@ pub struct Joined {
     pub first_cost: f32,
     pub last_cost: f32,
     pub why: Why,
-}
-
-#[derive(Clone, Copy)]
-pub enum Answer {
-    Joined(Joined),
-    Refused(Refusal),
 }
 
 // What the checks found and the caller set. Gravity is of unit length here; n is DOF times the free poses.
@@ -52,23 +43,25 @@ pub struct Setup {
 // ---- a turn
 
 // What an assembly comes to: a gradient whose norm is below the tolerance has converged.
-fn assembly_of(setup: Setup, made: Assembled, w32: &[f32]) -> Assembly
+fn assembly_of(setup: Setup, made: Result<(), AssemblyError>, w32: &[f32]) -> Assembly
     requires { Sized setup × (length w32.now ≡ need setup.n) }
     ensures { result ≡ assembly_in setup made w32.now }
 {
     match made {
-        Assembled::Bad { edge, why: _ } => Assembly::Refused(Refusal {
-            number: 21,
-            place: edge,
-        }),
-        Assembled::Short => Assembly::Flat,
-        Assembled::Done => {
+        Err(error) => match error {
+            AssemblyError::BadEdge { edge, why: _ } => Assembly::Refused(Refusal {
+                number: 21,
+                place: edge,
+            }),
+            AssemblyError::Short => Assembly::Flat,
+        },
+        Ok(()) => {
             let n = setup.n;
             let from = n * n + n;
             let to = from + n;
             let norm = trials::l2_norm(&w32[from..to]);
             let set = setup.settings;
-            if norm < numbers::widen(set.gradient_tolerance) {
+            if norm < f64::from(set.gradient_tolerance) {
                 Assembly::Flat
             } else {
                 Assembly::Steep
@@ -86,18 +79,18 @@ fn pass_top(
     s: State,
     poses: &[f64],
     w32: &mut [f32],
-) -> Gate
+) -> Option<Result<Why, Refusal>>
     requires sized { Sized setup × (length w32.old ≡ need setup.n) }
     requires at_top { AtTop setup (links_in setup ends.now edges.now blocks.now) s poses.now w32.old }
     ensures { PassedTop setup (links_in setup ends.now edges.now blocks.now) s poses.now result w32.new }
 {
     let fresh = s.fresh;
     if !fresh {
-        return Gate::Go;
+        return None;
     }
     let set = setup.settings;
     if decisions::at_limit(s, set.limit) {
-        return Gate::Stop(End::Stopped(Why::Budget));
+        return Some(Ok(Why::Budget));
     }
     let m = setup.manifold;
     let made = assembly::build_normal_system_with_mapping(
@@ -122,7 +115,7 @@ fn attempt(
     ensures { Attempted setup (links_in setup ends.now edges.now blocks.now) s w64.old result w32.new w64.new }
 {
     let n = setup.n;
-    let Solved::Step = solve::solve_damped(w32, n, s.damping) else {
+    let Ok(()) = solve::solve_damped(w32, n, s.damping) else {
         return Outcome::Failed;
     };
     let at = n * n + n + n;
@@ -145,8 +138,8 @@ fn one_turn(
 {
     let half = setup.poses * 12;
     match pass_top(setup, ends, edges, blocks, s, &w64[..half], w32) {
-        Gate::Stop(e) => Next::Over(s, e),
-        Gate::Go => {
+        Some(e) => Next::Over(s, e),
+        None => {
             let o = attempt(setup, ends, edges, blocks, s, w32, w64);
             let set = setup.settings;
             decisions::after_solve(s, set.limit, set.cost_tolerance, o)
@@ -170,22 +163,25 @@ pub fn has_converged(w: Why) -> bool
 }
 
 // What a run says that ended so in the state s, after so many iterations.
-pub fn answer_of(first: f32, s: State, e: End, iterations: u32) -> Answer
+pub fn answer_of(
+    first: f32,
+    s: State,
+    e: Result<Why, Refusal>,
+    iterations: u32,
+) -> Result<Joined, Refusal>
     ensures { result ≡ answer_after iterations first s e }
 {
-    match e {
-        End::Refused(r) => Answer::Refused(r),
-        End::Stopped(why) => Answer::Joined(Joined {
-            iterations,
-            converged: has_converged(why),
-            accepted: s.accepted,
-            rejected: s.rejected,
-            failed: s.failed,
-            first_cost: first,
-            last_cost: s.cost,
-            why,
-        }),
-    }
+    let why = e?;
+    Ok(Joined {
+        iterations,
+        converged: has_converged(why),
+        accepted: s.accepted,
+        rejected: s.rejected,
+        failed: s.failed,
+        first_cost: first,
+        last_cost: s.cost,
+        why,
+    })
 }
 
 // ---- the run
@@ -198,7 +194,7 @@ fn started(
     blocks: &[u32; 256],
     w32: &mut [f32],
     w64: &mut [f64],
-) -> Answer
+) -> Result<Joined, Refusal>
     requires { Lent setup w32.old w64.old × Startable setup }
     ensures { Started setup (links_in setup ends.now edges.now blocks.now) w64.old result w64.new }
 {
@@ -211,11 +207,11 @@ fn started(
         setup.free,
     );
     match found {
-        Cost::Bad { edge, why: _ } => Answer::Refused(Refusal {
+        Err(bad) => Err(Refusal {
             number: 20,
-            place: edge,
+            place: bad.edge,
         }),
-        Cost::Of(first) => {
+        Ok(first) => {
             let set = setup.settings;
             let mut s = decisions::begin(first, set.damping);
             loop {
@@ -242,20 +238,20 @@ fn begun(
     w32: &mut [f32],
     w64: &mut [f64],
     out: &mut [f64],
-) -> Answer
+) -> Result<Joined, Refusal>
     requires lent { Lent setup w32.old w64.old × Startable setup }
     requires poses_len { (length poses.now ≡ setup.poses * 12) × (length out.old ≡ length poses.now) }
     ensures { Begun setup (links_in setup ends.now edges.now blocks.now) poses.now w32.old w64.old out.old result w32.new w64.new
         out.new }
 {
     let half = setup.poses * 12;
-    slices::copy64(poses, &mut w64[..half]);
+    slices::copy(poses, &mut w64[..half]);
     let a = started(setup, ends, edges, blocks, w32, w64);
-    if let Answer::Joined(_) = a {
-        slices::copy64(&w64[..half], out);
+    if let Ok(_) = a {
+        slices::copy(&w64[..half], out);
     }
-    slices::clear32(w32);
-    slices::clear64(w64);
+    slices::clear(w32);
+    slices::clear(w64);
     a
 }
 
@@ -270,7 +266,7 @@ pub fn sparse_pose_graph_optimize(
     work32: &mut [f32],
     work64: &mut [f64],
     out: &mut [f64],
-) -> Answer
+) -> Result<Joined, Refusal>
     ensures { record { answer = result; work32 = work32.new; work64 = work64.new; out = out.new }
         ≡ optimized_on manifold poses.now ends.now edges.now fixed.now settings work32.old work64.old out.old }
 {
@@ -284,31 +280,27 @@ pub fn sparse_pose_graph_optimize(
     );
     let answer = checks.answer;
     let blocks = checks.blocks;
-    match answer {
-        Checked::Turned(r) => Answer::Refused(r),
-        Checked::Fit(c) => {
-            let n = graph::dof(manifold) * (c.free as usize);
-            let n32 = n * (n + 3);
-            let n64 = 24 * c.poses;
-            let setup = Setup {
-                manifold: retraction::unit_manifold(manifold),
-                n,
-                poses: c.poses,
-                free: c.free,
-                settings,
-            };
-            begun(
-                setup,
-                poses,
-                ends,
-                edges,
-                &blocks,
-                &mut work32[..n32],
-                &mut work64[..n64],
-                out,
-            )
-        }
-    }
+    let c = answer?;
+    let n = graph::dof(manifold) * (c.free as usize);
+    let n32 = n * (n + 3);
+    let n64 = 24 * c.poses;
+    let setup = Setup {
+        manifold: retraction::unit_manifold(manifold),
+        n,
+        poses: c.poses,
+        free: c.free,
+        settings,
+    };
+    begun(
+        setup,
+        poses,
+        ends,
+        edges,
+        &blocks,
+        &mut work32[..n32],
+        &mut work64[..n64],
+        out,
+    )
 }
 
 // The run with six degrees of freedom a pose.
@@ -321,7 +313,7 @@ pub fn optimize(
     work32: &mut [f32],
     work64: &mut [f64],
     out: &mut [f64],
-) -> Answer
+) -> Result<Joined, Refusal>
     ensures { record { answer = result; work32 = work32.new; work64 = work64.new; out = out.new }
         ≡ optimized_on Manifold.Se3 poses.now ends.now edges.now fixed.now settings work32.old work64.old out.old }
 {
@@ -340,7 +332,7 @@ pub fn optimize(
 
 // The run with four: centres move, and poses turn about gravity.
 pub fn optimize_with_gravity(
-    gravity: Vec3,
+    gravity: Vec3<f64>,
     poses: &[f64],
     ends: &[u32],
     edges: &[f32],
@@ -349,7 +341,7 @@ pub fn optimize_with_gravity(
     work32: &mut [f32],
     work64: &mut [f64],
     out: &mut [f64],
-) -> Answer
+) -> Result<Joined, Refusal>
     ensures { record { answer = result; work32 = work32.new; work64 = work64.new; out = out.new }
         ≡ optimized_on (Manifold.Gravity gravity) poses.now ends.now edges.now fixed.now settings work32.old work64.old out.old }
 {

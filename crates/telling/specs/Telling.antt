@@ -1,21 +1,14 @@
 -- The numbers that a host program reads of what a layer, a run, a scan or a job comes to. Definitions only.
-use Rattle.std.specs.Prelude.{ℕ, Bool, true, false, ◌&&◌, ◌||◌, List, [], ◌∷◌, ◌++◌, eqb, ltb, Float}
+use Rattle.std.specs.Prelude.{ℕ, Bool, true, false, ◌&&◌, ◌||◌, List, [], ◌∷◌, ◌++◌, eqb, ltb, Float, Err, Ok, Result}
 use Rattle.numbers.specs.Notation.{if_then}
 use Rattle.numbers.specs.declared.Refusal.{Refusal}
-use Rattle.rotations.specs.declared.QuatF32.{QuatF32}
-use Rattle.rotations.specs.declared.Transform.{Transform}
+use Rattle.rotations.specs.Formats.{QuatF32, Transform}
 use Rattle.decisions.specs.declared.Why.{Why}
 use Rattle.decisions.specs.declared.Why.TheVariants as why
 use Rattle.sparse_pgo.specs.declared.Joined.{Joined}
-use Rattle.sparse_pgo.specs.declared.Answer.{Answer}
-use Rattle.sparse_pgo.specs.declared.Answer.TheVariants as answer
 use Rattle.printable.specs.declared.Measures.{Measures}
 use Rattle.job.specs.declared.SettingBits.{SettingBits}
 use Rattle.job_records.specs.declared.Tally.{Tally}
-use Rattle.job.specs.declared.Read.{Read}
-use Rattle.job.specs.declared.Read.TheVariants as read
-use Rattle.job.specs.declared.Written.{Written}
-use Rattle.job.specs.declared.Written.TheVariants as written
 
 -- ---- the layers
 
@@ -53,9 +46,9 @@ joined_costs j = j.first_cost ∷ j.last_cost ∷ []
 abbrev pub refused_eight : Refusal → List ℕ
 refused_eight r = r.number ∷ place32 r.place ∷ 0 ∷ 0 ∷ 0 ∷ 0 ∷ 0 ∷ 0 ∷ []
 
-abbrev pub answer_eight : Answer → List ℕ
-answer_eight (answer.Joined j) = joined_eight j
-answer_eight (answer.Refused r) = refused_eight r
+abbrev pub answer_eight : Result Joined Refusal → List ℕ
+answer_eight (Ok j) = joined_eight j
+answer_eight (Err r) = refused_eight r
 
 -- ---- a scan whose loops were closed: the run's eight numbers, then whether it is usable
 
@@ -81,20 +74,20 @@ read_eight t had =
     t.limit ∷ t.cost_tolerance ∷ t.gradient_tolerance ∷ t.damping
     ∷ place32 had.poses ∷ place32 had.edges ∷ place32 had.fixed ∷ 0 ∷ []
 
-abbrev pub read_number : Read → ℕ
-read_number (read.Job t had) = 0
-read_number (read.Refused r) = r.number
+abbrev pub read_number : Result (SettingBits × Tally) Refusal → ℕ
+read_number (Ok (t, had)) = 0
+read_number (Err r) = r.number
 
-abbrev pub read_answer : Read → List ℕ
-read_answer (read.Job t had) = read_eight t had
-read_answer (read.Refused r) = refused_eight r
+abbrev pub read_answer : Result (SettingBits × Tally) Refusal → List ℕ
+read_answer (Ok (t, had)) = read_eight t had
+read_answer (Err r) = refused_eight r
 
 -- ---- a job that was written: the bytes and 0, or the refusal's number and place
 
-abbrev pub written_number : Written → ℕ
-written_number (written.Bytes n) = 0
-written_number (written.Refused r) = r.number
+abbrev pub written_number : Result ℕ Refusal → ℕ
+written_number (Ok n) = 0
+written_number (Err r) = r.number
 
-abbrev pub written_two : Written → List ℕ
-written_two (written.Bytes n) = place32 n ∷ 0 ∷ []
-written_two (written.Refused r) = r.number ∷ place32 r.place ∷ []
+abbrev pub written_two : Result ℕ Refusal → List ℕ
+written_two (Ok n) = place32 n ∷ 0 ∷ []
+written_two (Err r) = r.number ∷ place32 r.place ∷ []

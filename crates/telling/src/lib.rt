@@ -8,22 +8,22 @@ ghost use Rattle.telling.specs.Telling.{read_eight, read_number, read_answer, wr
 ghost use Rattle.telling.specs.Telling.{fits_closing};
 
 use decisions::Why;
-use job::{Read, SettingBits, Written};
+use job::SettingBits;
 use job_records::Tally;
 use numbers::Refusal;
 use printable::Measures;
-use rotations::{QuatF32, Transform};
-use sparse_pgo::{Answer, Joined};
+use rotations::{Quat, Transform};
+use sparse_pgo::Joined;
 
 // ---- the layers
 
-pub fn quat_numbers(q: QuatF32) -> [f32; 4]
+pub fn quat_numbers(q: Quat<f32>) -> [f32; 4]
     ensures { result ≡ quat_numbers q }
 {
     [q.x, q.y, q.z, q.w]
 }
 
-pub fn transform_numbers(a: Transform) -> [f32; 7]
+pub fn transform_numbers(a: Transform<f32>) -> [f32; 7]
     ensures { result ≡ transform_numbers a }
 {
     [a.q.x, a.q.y, a.q.z, a.q.w, a.t.x, a.t.y, a.t.z]
@@ -88,12 +88,12 @@ pub fn refused_eight(r: Refusal) -> [u32; 8]
     [r.number, place_of(r.place), 0, 0, 0, 0, 0, 0]
 }
 
-pub fn answer_eight(a: Answer) -> [u32; 8]
+pub fn answer_eight(a: Result<Joined, Refusal>) -> [u32; 8]
     ensures { result ≡ answer_eight a }
 {
     match a {
-        Answer::Joined(j) => joined_eight(j),
-        Answer::Refused(r) => refused_eight(r),
+        Ok(j) => joined_eight(j),
+        Err(r) => refused_eight(r),
     }
 }
 
@@ -162,38 +162,38 @@ pub fn read_eight(t: SettingBits, had: Tally) -> [u32; 8]
     ]
 }
 
-pub fn read_number(v: Read) -> u32
+pub fn read_number(v: Result<(SettingBits, Tally), Refusal>) -> u32
     ensures { result ≡ read_number v }
 {
     match v {
-        Read::Job(_, _) => 0,
-        Read::Refused(r) => r.number,
+        Ok((_, _)) => 0,
+        Err(r) => r.number,
     }
 }
 
-pub fn read_answer(v: Read) -> [u32; 8]
+pub fn read_answer(v: Result<(SettingBits, Tally), Refusal>) -> [u32; 8]
     ensures { result ≡ read_answer v }
 {
     match v {
-        Read::Job(t, had) => read_eight(t, had),
-        Read::Refused(r) => refused_eight(r),
+        Ok((t, had)) => read_eight(t, had),
+        Err(r) => refused_eight(r),
     }
 }
 
-pub fn written_number(v: Written) -> u32
+pub fn written_number(v: Result<usize, Refusal>) -> u32
     ensures { result ≡ written_number v }
 {
     match v {
-        Written::Bytes(_) => 0,
-        Written::Refused(r) => r.number,
+        Ok(_) => 0,
+        Err(r) => r.number,
     }
 }
 
-pub fn written_two(v: Written) -> [u32; 2]
+pub fn written_two(v: Result<usize, Refusal>) -> [u32; 2]
     ensures { result ≡ written_two v }
 {
     match v {
-        Written::Bytes(n) => [place_of(n), 0],
-        Written::Refused(r) => [r.number, place_of(r.place)],
+        Ok(n) => [place_of(n), 0],
+        Err(r) => [r.number, place_of(r.place)],
     }
 }

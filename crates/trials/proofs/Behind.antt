@@ -1,5 +1,5 @@
 -- Numbers laid from a place on, several at a time; and what the list is then. Assumes nothing.
-use mathlib.Core.Path.{◌≡◌, refl, sym, ap, subst, ◌∙◌}
+use mathlib.Core.Path.{◌≡◌, refl, sym, ap, ap₂, subst, ◌∙◌}
 use mathlib.Core.Bool.{Bool, true, false}
 use mathlib.Core.Logic.{inl, inr, ⊎_elim}
 use mathlib.Core.List.{List, ◌++◌}
@@ -8,12 +8,11 @@ use native.Mathlib.Omega.{arith}
 use borrow.Author.Tests.{ltb-true, ltb-false}
 use lib.Dec.{ltb}
 use lib.ListN.{length, get_or, take, drop, length-append, length-drop, get_or-append}
-use lib.Seq.{ext_get_or, get_or-take, get_or-drop, get_or-append-add, length-take-le, take_all, drop-drop}
+use borrow.Rule.Slice.PartMut.{put_mid}
+use lib.Seq.{ext_get_or, get_or-take, get_or-drop, get_or-append-add, length-take-le, drop-drop}
 use Rattle.numbers.specs.Walks.{table}
 use Rattle.numbers.proofs.Laying.{Laid}
-use Rattle.numbers.proofs.Parted.{part_from, with_part, part_from_lem, with_part_lem}
 use Rattle.numbers.proofs.Tables.{length_table, get_d_table}
-use Rattle.slices.specs.Slices.{copied}
 
 -- the list l with ns from `at` on
 abbrev between : {A : Type 0} → ℕ → List A → List A → List A
@@ -46,20 +45,17 @@ module _ {A : Type 0} (d : A) (at : ℕ) (ns l : List A) (fits : at + length ns 
       ∙ get_or-drop (at + length ns) l k d
       ∙ ap (λ (x : ℕ). get_or l x d) s
 
-  -- a copy of ns into the part from `at` on
-  copied_behind : (ys : List A) → ys ≡ copied ns (part_from at l) → with_part at l ys ≡ between at ns l
-  copied_behind ys e =
-      let k : length ns ≤ length (drop at l) = rw length-drop (omega arith) in
-      with_part_lem at l ys
-      ∙ ap (λ (z : List A). take at l ++ z)
-      (e ∙ ap (copied ns) (part_from_lem at l) ∙ ap (λ (z : List A). z ++ drop (length ns) (drop at l)) (take_all (length (drop at l)) ns k)
-      ∙ ap (λ (z : List A). ns ++ z) (drop-drop (length ns) at l))
+  -- ns written over as many numbers
+  written : (ys : List A) (k : ℕ) → ys ≡ ns → k ≡ length ns → put_mid at k l ys ≡ between at ns l
+  written ys k e q =
+      ap₂ (λ (z : List A) (n : ℕ). take at l ++ (z ++ drop n (drop at l))) e q
+      ∙ ap (λ (z : List A). take at l ++ (ns ++ z)) (drop-drop (length ns) at l)
 
 module _ {A : Type 0} (d : A) {f : ℕ → A} {at : ℕ} {l₀ l : List A} {j : ℕ} (h : Laid d f at l₀ l j) where
-  -- several more, copied
-  pub laid_several : (ns ys : List A) (k : ℕ) → length ns ≡ k → at + j + k ≤ length l → ys ≡ copied ns (part_from (at + j) l) → ((i : ℕ) → i < k → get_or ns i d ≡ f (j + i))
-      → Laid d f at l₀ (with_part (at + j) l ys) (j + k)
-  laid_several ns ys k long fits e v = rw (copied_behind d (at + j) ns l room ys e) laid
+  -- several more, written over as many
+  pub laid_several : (ns ys : List A) (k : ℕ) → length ns ≡ k → at + j + k ≤ length l → ys ≡ ns → ((i : ℕ) → i < k → get_or ns i d ≡ f (j + i))
+      → Laid d f at l₀ (put_mid (at + j) (at + j + k - (at + j)) l ys) (j + k)
+  laid_several ns ys k long fits e v = rw (written d (at + j) ns l room ys (at + j + k - (at + j)) e (omega (arith, long))) laid
     where
       room : at + j + length ns ≤ length l
       room = omega (arith, long)

@@ -1,4 +1,5 @@
 -- What a trial leaves in numbers that hold so many poses twice and nothing else: its poses behind the accepted ones, and in their place. Assumes nothing.
+use Rattle.std.specs.Prelude.{Option}
 use mathlib.Core.Path.{◌≡◌, ap, ◌∙◌}
 use mathlib.Core.List.{List, ◌++◌, append-nil}
 use Prim.Native.Nat.{ℕ, ◌+◌, ◌*◌, ◌/◌, ◌≤◌}
@@ -12,13 +13,12 @@ use Rattle.graph.specs.Graph.{Links}
 use Rattle.graph.specs.Lent.{pose_at}
 use Rattle.graph.specs.declared.Edge.{Edge}
 use Rattle.graph.specs.declared.Manifold.{Manifold}
-use Rattle.graph.specs.declared.Slot.{Slot}
 use Rattle.costs.specs.Costs.{cost_ends}
 use Rattle.decisions.specs.Run.{heard}
 use Rattle.decisions.specs.declared.Raw.TheVariants as raw
 use Rattle.trials.specs.Trials.{norm_of, step_tolerance, moves, moved_numbers, tried_as, half, trial_in, taken_over, try_answers}
 
-module _ (m : Manifold) (slot : ℕ → Slot) (δ : ℕ → Float) (poses : ℕ) (w : List Float) (long : length w ≡ poses * 24) where
+module _ (m : Manifold) (slot : ℕ → Option ℕ) (δ : ℕ → Float) (poses : ℕ) (w : List Float) (long : length w ≡ poses * 24) where
   pub count_is : length w / 24 ≡ poses
   count_is = omega arith
 

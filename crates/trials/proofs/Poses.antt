@@ -1,31 +1,28 @@
--- The poses of a trial one after the other, behind the accepted ones; and the trial's taken over. Assumes nothing.
+-- The poses of a trial one after the other, behind the accepted ones. Assumes nothing.
+use Rattle.std.specs.Prelude.{Err, None, Ok, Option, Some}
 use mathlib.Core.Path.{◌≡◌, refl, sym, ap, ◌∙◌}
 use mathlib.Core.Bool.{Bool, true, false, ◌&&◌}
 use mathlib.Core.Logic.{inl}
 use mathlib.Core.List.{List}
-use Prim.Native.Nat.{ℕ, ◌+◌, ◌*◌, ◌/◌, ◌%◌, ◌<◌, ◌≤◌}
-use native.Mathlib.Nat.{zero-add}
+use Prim.Native.Nat.{ℕ, ◌+◌, ◌-◌, ◌*◌, ◌/◌, ◌%◌, ◌<◌, ◌≤◌}
 use native.Mathlib.Omega.{arith}
 use native.Mathlib.Numerals.{add-one}
-use lib.ListN.{length, get_or, take, drop, length-drop}
-use lib.Seq.{length-take-le, get_or-take, get_or-drop}
+use lib.ListN.{length, get_or, take}
+use borrow.Rule.Slice.PartMut.{put_mid}
+use lib.Seq.{length-take-le}
 use lib.Ieee.{Float, nan}
 use Rattle.numbers.specs.Walks.{every, table}
 use Rattle.numbers.specs.declared.Failure.{Failure}
 use Rattle.numbers.proofs.Laying.{Laid, laid_none}
-use Rattle.numbers.proofs.Parted.{part_from, with_part, first_kept}
-use Rattle.numbers.proofs.Tables.{is_table, get_d_table}
-use Rattle.slices.specs.Slices.{copied}
+use Rattle.numbers.proofs.Parted.{first_kept}
+use Rattle.numbers.proofs.Tables.{get_d_table}
 use Rattle.rotations.specs.declared.Pose.{Pose}
 use Rattle.pose_conversion.specs.Conversions.{restoring}
-use Rattle.pose_conversion.specs.declared.Restored.TheVariants.{Into, Bad}
 use Rattle.graph.specs.Lent.{dof_of, pose_from, pose_at, numbers_of}
 use Rattle.graph.specs.declared.Manifold.{Manifold}
-use Rattle.graph.specs.declared.Slot.{Slot}
-use Rattle.graph.specs.declared.Slot.TheVariants.{Block, Fixed}
 use Rattle.retraction.specs.Retraction.{retract_of}
 use Rattle.trials.specs.declared.TrialPose.{TrialPose}
-use Rattle.trials.specs.Trials.{part_of, moves_by, number_by, moves, moved_numbers, half, taken_over}
+use Rattle.trials.specs.Trials.{part_of, moves_by, number_by, moves, moved_numbers, half}
 use Rattle.trials.specs.forms.Passes.{Moves, Retracted}
 use Rattle.trials.proofs.Behind.{laid_several, laid_is}
 
@@ -41,24 +38,24 @@ module _ (m : Manifold) (x : List Float) (δ : ℕ → Float) (p : ℕ) {pose : 
       ap (λ (l : List Float). get_or l j nan) (ap (λ (z : Pose). numbers_of z) e ∙ numbers_from (λ i. get_or x (p * 12 + i) nan))
       ∙ get_d_table (λ i. get_or x (p * 12 + i) nan) 12 j nan h
 
-  pub moves_fixed : {s : Slot} → s ≡ Fixed → Moves m x δ p s (record { pose = pose; well = true })
+  pub moves_fixed : {s : Option ℕ} → s ≡ None → Moves m x δ p s (record { pose = pose; well = true })
   moves_fixed q = record { answer = rw q; numbers = λ j h. rw q (as_it_is j h) }
 
-  module _ {s : Slot} {b : ℕ} (q : s ≡ Block b) {dof : ℕ} (f : dof ≡ dof_of m) {delta : List Float} (g : delta ≡ part_of dof δ b) where
+  module _ {s : Option ℕ} {b : ℕ} (q : s ≡ Some b) {dof : ℕ} (f : dof ≡ dof_of m) {delta : List Float} (g : delta ≡ part_of dof δ b) where
     same : retract_of m pose delta ≡ retract_of m (pose_at x p) (part_of (dof_of m) δ b)
     same = rw (e, g, f)
 
-    pub moves_into : {to : Pose} → retract_of m pose delta ≡ Into to → Moves m x δ p s (record { pose = to; well = true })
+    pub moves_into : {to : Pose} → retract_of m pose delta ≡ Ok to → Moves m x δ p s (record { pose = to; well = true })
     unfolding restoring
     moves_into r = let t = sym same ∙ r in record { answer = rw (q, t); numbers = λ j h. rw (q, t) }
 
-    pub moves_bad : {why : Failure} → retract_of m pose delta ≡ Bad why → Moves m x δ p s (record { pose = pose; well = false })
+    pub moves_bad : {why : Failure} → retract_of m pose delta ≡ Err why → Moves m x δ p s (record { pose = pose; well = false })
     unfolding restoring
     moves_bad r = let t = sym same ∙ r in record { answer = rw (q, t); numbers = λ j h. rw (q, t) (as_it_is j h) }
 
 -- ---- the poses below p
 
-module _ (m : Manifold) (slot : ℕ → Slot) (δ : ℕ → Float) (w₀ : List Float) where
+module _ (m : Manifold) (slot : ℕ → Option ℕ) (δ : ℕ → Float) (w₀ : List Float) where
   abbrev held : List Float
   held = take (half w₀) w₀
 
@@ -73,7 +70,7 @@ module _ (m : Manifold) (slot : ℕ → Slot) (δ : ℕ → Float) (w₀ : List 
   tried_none = record { most = omega arith; laid = laid_none nan _ _ _; answer = refl }
 
   pub tried_more : {w ns ys : List Float} {well : Bool} {p : ℕ} {r : TrialPose} → Tried w well p → p < length w₀ / 24 → Moves m (take (half w₀) w) δ p (slot p) r
-      → ns ≡ numbers_of r.pose → ys ≡ copied ns (part_from (half w₀ + p * 12) w) → Tried (with_part (half w₀ + p * 12) w ys) (well && r.well) (p + 1)
+      → ns ≡ numbers_of r.pose → ys ≡ ns → Tried (put_mid (half w₀ + p * 12) (half w₀ + p * 12 + 12 - (half w₀ + p * 12)) w ys) (well && r.well) (p + 1)
   unfolding every
   tried_more {w} {ns} {ys} {well} {p} {r} t l h e c =
       let n : p * 12 + 12 ≡ (p + 1) * 12 = omega arith in
@@ -106,13 +103,3 @@ module _ (m : Manifold) (slot : ℕ → Slot) (δ : ℕ → Float) (w₀ : List 
         answer = t.answer ∙ ap (every (λ k. moves_by m held δ k (slot k))) e;
         poses = laid_is nan t.laid (omega arith) ∙ (rw (n, k));
       }
-
--- ---- the trial's poses taken over
-
-pub laid_accepted : {w₀ w : List Float} {i : ℕ} → Laid nan (λ k. get_or w₀ (half w₀ + k) nan) 0 w₀ w i → i ≡ half w₀ → w ≡ taken_over w₀
-laid_accepted {w₀} {w} {i} h e =
-    let long : length (take (half w₀) (drop (half w₀) w₀)) ≡ half w₀
-    = length-take-le (half w₀) (drop (half w₀) w₀) (rw length-drop (omega arith)) in
-    let front : take (half w₀) (drop (half w₀) w₀) ≡ table (λ k. get_or w₀ (half w₀ + k) nan) (half w₀)
-    = is_table nan _ _ (half w₀) long (λ k q. get_or-take (half w₀) (drop (half w₀) w₀) k nan q ∙ get_or-drop (half w₀) w₀ k nan) in
-    laid_is nan h (omega arith) ∙ (rw (zero-add, e, front))

@@ -1,4 +1,5 @@
 -- What a step means to a trial: numbers past the unknowns don't count. Assumes nothing.
+use Rattle.std.specs.Prelude.{None, Option, Some}
 use mathlib.Core.Path.{◌≡◌, refl, ap}
 use mathlib.Core.Bool.{Bool, true, false}
 use mathlib.Core.List.{List}
@@ -16,16 +17,14 @@ use Rattle.numbers.proofs.Walking.{every_ext, sum_ext}
 use Rattle.numbers.proofs.Tables.{table_ext}
 use Rattle.graph.specs.Lent.{dof_of, none, slot_in}
 use Rattle.graph.specs.declared.Manifold.{Manifold}
-use Rattle.graph.specs.declared.Slot.{Slot}
-use Rattle.graph.specs.declared.Slot.TheVariants.{Block, Fixed}
 use Rattle.trials.specs.Trials.{norm_of, part_of, moves_by, number_by, moves, moved_numbers}
 
 -- a block is below the free count
-pub slot_below : (blocks : List ℕ) (free x b : ℕ) → slot_in blocks free x ≡ Block b → b < free
+pub slot_below : (blocks : List ℕ) (free x b : ℕ) → slot_in blocks free x ≡ Some b → b < free
 unfolding slot_in if_then
 slot_below blocks free x b = go (get_or blocks x none) (ltb (get_or blocks x none) free) (ltb-true (get_or blocks x none) free)
   where
-    go : (a : ℕ) (t : Bool) → (t ≡ true → a < free) → if_then t (Block a) Fixed ≡ Block b → b < free
+    go : (a : ℕ) (t : Bool) → (t ≡ true → a < free) → if_then t (Some a) None ≡ Some b → b < free
     go a true y e = let s : a ≡ b = cc in let r : a < free = y refl in omega arith
     go a false y e = let z : ◌≡◌ {A = ℕ} 0 1 = cc in absurd (omega arith)
 
@@ -44,7 +43,7 @@ part_same dof δ δ' b h =
     go j false y = refl
 
 -- steps that agree below n, the number of unknowns, make the same trial
-module _ (m : Manifold) (slot : ℕ → Slot) (free n : ℕ) (δ δ' : ℕ → Float) (size : n ≡ dof_of m * free) (below : (p b : ℕ) → slot p ≡ Block b → b < free) (same : (i : ℕ) → i < n → δ i ≡ δ' i) where
+module _ (m : Manifold) (slot : ℕ → Option ℕ) (free n : ℕ) (δ δ' : ℕ → Float) (size : n ≡ dof_of m * free) (below : (p b : ℕ) → slot p ≡ Some b → b < free) (same : (i : ℕ) → i < n → δ i ≡ δ' i) where
   block_same : (b : ℕ) → b < free → part_of (dof_of m) δ b ≡ part_of (dof_of m) δ' b
   block_same b l =
       part_same (dof_of m) δ δ' b
@@ -54,9 +53,9 @@ module _ (m : Manifold) (slot : ℕ → Slot) (free n : ℕ) (δ δ' : ℕ → F
   unfolding moves
   moves_same poses x = every_ext (λ p. moves_by m x δ p (slot p)) (λ p. moves_by m x δ' p (slot p)) poses (λ p _. go p (slot p) refl)
     where
-      go : (p : ℕ) (s : Slot) → slot p ≡ s → moves_by m x δ p s ≡ moves_by m x δ' p s
-      go p Fixed e = refl
-      go p (Block b) e = rw (block_same b (below p b e))
+      go : (p : ℕ) (s : Option ℕ) → slot p ≡ s → moves_by m x δ p s ≡ moves_by m x δ' p s
+      go p None e = refl
+      go p (Some b) e = rw (block_same b (below p b e))
 
   pub moved_same : (x : List Float) → moved_numbers m slot x δ ≡ moved_numbers m slot x δ'
   unfolding moved_numbers
@@ -64,6 +63,6 @@ module _ (m : Manifold) (slot : ℕ → Slot) (free n : ℕ) (δ δ' : ℕ → F
       table_ext nan (λ q. number_by m x δ (q / 12) (q % 12) (slot (q / 12))) (λ q. number_by m x δ' (q / 12) (q % 12) (slot (q / 12))) (length x)
       (λ q _. go (q / 12) (q % 12) (slot (q / 12)) refl)
     where
-      go : (p j : ℕ) (s : Slot) → slot p ≡ s → number_by m x δ p j s ≡ number_by m x δ' p j s
-      go p j Fixed e = refl
-      go p j (Block b) e = rw (block_same b (below p b e))
+      go : (p j : ℕ) (s : Option ℕ) → slot p ≡ s → number_by m x δ p j s ≡ number_by m x δ' p j s
+      go p j None e = refl
+      go p j (Some b) e = rw (block_same b (below p b e))

@@ -1,4 +1,6 @@
 -- What each return of a trial answers and leaves. Assumes nothing.
+use Rattle.costs.specs.declared.BadEdge.{BadEdge}
+use Rattle.std.specs.Prelude.{Err, Ok, Result}
 use mathlib.Core.Path.{◌≡◌, refl, sym, ap, ap₂, ◌∙◌}
 use mathlib.Core.Bool.{Bool, true, false}
 use mathlib.Core.List.{List}
@@ -13,8 +15,6 @@ use Rattle.graph.specs.Lent.{pose_at}
 use Rattle.graph.specs.declared.Edge.{Edge}
 use Rattle.graph.specs.declared.Manifold.{Manifold}
 use Rattle.costs.specs.Costs.{cost_of}
-use Rattle.costs.specs.declared.Cost.{Cost}
-use Rattle.costs.specs.declared.Cost.TheVariants as cost
 use Rattle.decisions.specs.Run.{judged, heard}
 use Rattle.decisions.specs.declared.Numerical.TheVariants as numerical
 use Rattle.decisions.specs.declared.Reason.{Reason}
@@ -37,7 +37,7 @@ module _ (m : Manifold) (l : Links Edge) (price : Float) (δ : ℕ → Float) (b
       record { answer = rw n; poses = h.poses }
 
   -- all went well
-  module _ (e : r ≡ true) {found : Cost} (long : length after ≡ length before) (p : found ≡ cost_of l (pose_at (part_from (length after / 24 * 12) after))) where
+  module _ (e : r ≡ true) {found : Result Float BadEdge} (long : length after ≡ length before) (p : found ≡ cost_of l (pose_at (part_from (length after / 24 * 12) after))) where
     went : moves m l.slot (length before / 24) (take (half before) before) δ ≡ true
     went = sym h.answer ∙ e
 
@@ -46,11 +46,11 @@ module _ (m : Manifold) (l : Links Edge) (price : Float) (δ : ℕ → Float) (b
         ap (λ (x : List Float). cost_of l (pose_at x))
         (part_from_lem (length after / 24 * 12) after ∙ ap₂ (λ (k : ℕ) (x : List Float). drop (k / 24 * 12) x) long h.poses)
 
-    pub trial_unpriced : {k : ℕ} {why : Failure} → found ≡ cost.Bad k why → Evaluated m l price δ before (trial.Rejected (reason.Numerical numerical.Unpriced)) after
+    pub trial_unpriced : {k : ℕ} {why : Failure} → found ≡ Err (record { edge = k; why = why }) → Evaluated m l price δ before (trial.Rejected (reason.Numerical numerical.Unpriced)) after
     unfolding heard
     trial_unpriced {k} {why} q = let c = cost_bad l _ found (p ∙ at) k why q in record { answer = rw (went, c.ends); poses = h.poses }
 
-    pub trial_priced : {new : Float} {t : Trial} → found ≡ cost.Of new → t ≡ judged price new → Evaluated m l price δ before t after
+    pub trial_priced : {new : Float} {t : Trial} → found ≡ Ok new → t ≡ judged price new → Evaluated m l price δ before t after
     unfolding heard
     trial_priced {new} q j = let c = cost_had l _ found (p ∙ at) new q in record { answer = rw (went, c, j); poses = h.poses }
 

@@ -1,6 +1,6 @@
 -- The trial of a step δ (document 01, "The solve and the run"): its norm, its poses beside the accepted ones, and what it comes to. Poses are held as
 -- their numbers, twelve a pose. Definitions only.
-use Rattle.std.specs.Prelude.{ℕ, ◌+◌, ◌*◌, ◌/◌, ◌%◌, Bool, true, false, List, ◌++◌, ltb, length, get_or, take, drop, Float}
+use Rattle.std.specs.Prelude.{ℕ, ◌+◌, ◌*◌, ◌/◌, ◌%◌, Bool, true, false, List, ◌++◌, ltb, length, get_or, take, drop, Float, None, Option, Some}
 use Rattle.std.specs.Float.{nan, binary64}
 use Rattle.std.specs.Float.Ieee.{lt}
 use Rattle.numbers.specs.Notation.{◌⊗◌, num, ratio32, if_then}
@@ -11,8 +11,6 @@ use Rattle.graph.specs.Graph.{Links}
 use Rattle.graph.specs.Lent.{dof_of, pose_at, numbers_of}
 use Rattle.graph.specs.declared.Edge.{Edge}
 use Rattle.graph.specs.declared.Manifold.{Manifold}
-use Rattle.graph.specs.declared.Slot.{Slot}
-use Rattle.graph.specs.declared.Slot.TheVariants.{Block, Fixed}
 use Rattle.retraction.specs.Retraction.{retract_of}
 use Rattle.costs.specs.Costs.{cost_ends}
 use Rattle.decisions.specs.Run.{heard}
@@ -38,19 +36,19 @@ unfoldable pub part_of : ℕ → (ℕ → Float) → ℕ → List Float
 part_of dof δ b = table (λ j. if_then (ltb j dof) (δ (b * dof + j)) (num 0)) 6
 
 -- whether pose p of x, with its slot, can be moved; and number j of it then
-abbrev pub moves_by : Manifold → List Float → (ℕ → Float) → ℕ → Slot → Bool
-moves_by m x δ p Fixed = true
-moves_by m x δ p (Block b) = restoring (retract_of m (pose_at x p) (part_of (dof_of m) δ b)) (λ _. true) (λ _. false)
+abbrev pub moves_by : Manifold → List Float → (ℕ → Float) → ℕ → Option ℕ → Bool
+moves_by m x δ p None = true
+moves_by m x δ p (Some b) = restoring (retract_of m (pose_at x p) (part_of (dof_of m) δ b)) (λ _. true) (λ _. false)
 
-abbrev pub number_by : Manifold → List Float → (ℕ → Float) → ℕ → ℕ → Slot → Float
-number_by m x δ p j Fixed = get_or x (p * 12 + j) nan
-number_by m x δ p j (Block b) =
+abbrev pub number_by : Manifold → List Float → (ℕ → Float) → ℕ → ℕ → Option ℕ → Float
+number_by m x δ p j None = get_or x (p * 12 + j) nan
+number_by m x δ p j (Some b) =
     restoring (retract_of m (pose_at x p) (part_of (dof_of m) δ b)) (λ r. get_or (numbers_of r) j nan) (λ _. get_or x (p * 12 + j) nan)
 
-unfoldable pub moves : Manifold → (ℕ → Slot) → ℕ → List Float → (ℕ → Float) → Bool
+unfoldable pub moves : Manifold → (ℕ → Option ℕ) → ℕ → List Float → (ℕ → Float) → Bool
 moves m slot poses x δ = every (λ p. moves_by m x δ p (slot p)) poses
 
-unfoldable pub moved_numbers : Manifold → (ℕ → Slot) → List Float → (ℕ → Float) → List Float
+unfoldable pub moved_numbers : Manifold → (ℕ → Option ℕ) → List Float → (ℕ → Float) → List Float
 moved_numbers m slot x δ = table (λ q. number_by m x δ (q / 12) (q % 12) (slot (q / 12))) (length x)
 
 -- ---- what a trial comes to, not yet judged: a retraction that failed is tested first
@@ -69,7 +67,7 @@ abbrev pub half : List Float → ℕ
 half w = length w / 24 * 12
 
 -- the trial's poses behind the accepted ones; what is past them is never touched
-abbrev pub trial_in : Manifold → (ℕ → Slot) → (ℕ → Float) → List Float → List Float
+abbrev pub trial_in : Manifold → (ℕ → Option ℕ) → (ℕ → Float) → List Float → List Float
 trial_in m slot δ w = take (half w) w ++ (moved_numbers m slot (take (half w) w) δ ++ drop (half w + half w) w)
 
 -- the trial's poses taken over as the accepted ones

@@ -8,10 +8,8 @@ ghost use Rattle.graph.specs.Lent.{slot_in, lent_links};
 ghost use Rattle.trials.specs.Trials.{norm_of, part_of, taken_over, try_answers, try_leaves, trial_in};
 ghost use Rattle.trials.specs.forms.Passes.{Moves, Retracted, Evaluated};
 
-use costs::Cost;
 use decisions::{Numerical, Outcome, Reason, Trial};
-use graph::{Manifold, Slot};
-use pose_conversion::Restored;
+use graph::Manifold;
 use rotations::Pose;
 
 const STEP_SIZE_TOLERANCE: f32 = 1e-6;
@@ -21,11 +19,9 @@ pub fn l2_norm(v: &[f32]) -> f64
     ensures { result ≡ norm_of (λ i. get_or v.now i nan) (length v.now) }
 {
     let mut sum = 0.0f64;
-    let mut i = 0usize;
-    while i < v.len() {
-        let x = numbers::widen(v[i]);
-        sum = sum + x * x;
-        i += 1;
+    for x in v {
+        let wide = f64::from(*x);
+        sum += wide * wide;
     }
     roots::sqrt64(sum)
 }
@@ -36,15 +32,14 @@ fn delta_of(step: &[f32], dof: usize, b: usize) -> [f32; 6]
     ensures { result ≡ part_of dof (λ i. get_or step.now i nan) b }
 {
     let mut delta = [0.0f32; 6];
-    let mut j = 0usize;
-    while j < dof {
-        delta[j] = numbers::at32(step, b * dof + j);
-        j += 1;
+    for j in 0..dof {
+        delta[j] = numbers::at(step, b * dof + j);
     }
     delta
 }
 
-// A pose of a trial, and whether its retraction went well.
+// A pose of a trial, and whether its retraction went well. No Option or Result: where it did not, the pose stands in the trial as it was, and the next ones are
+// still retracted, so both are wanted (`Moves` of specs/forms says both).
 #[derive(Clone, Copy)]
 struct TrialPose {
     pose: Pose,
@@ -63,16 +58,16 @@ fn moved_pose(
     ensures { Moves m poses.now (λ i. get_or step.now i nan) p (slot_in blocks.now free p) result }
 {
     let pose = graph::pose_at(poses, p);
-    let Slot::Block(b) = graph::slot_at(blocks, free, p) else {
+    let Some(b) = graph::slot_at(blocks, free, p) else {
         return TrialPose { pose, well: true };
     };
     let delta = delta_of(step, graph::dof(m), b);
     match retraction::retract(m, pose, delta) {
-        Restored::Into(moved) => TrialPose {
+        Ok(moved) => TrialPose {
             pose: moved,
             well: true,
         },
-        Restored::Bad(_) => TrialPose { pose, well: false },
+        Err(_) => TrialPose { pose, well: false },
     }
 }
 
@@ -83,13 +78,12 @@ fn retract_free(m: Manifold, blocks: &[u32; 256], free: u32, step: &[f32], w: &m
     let n = w.len() / 24;
     let half = n * 12;
     let mut well = true;
-    let mut p = 0usize;
-    while p < n {
+    for p in 0..n {
         let moved = moved_pose(m, blocks, free, step, &w[..half], p);
         let ns = graph::numbers_of(moved.pose);
-        slices::copy64(&ns, &mut w[half + p * 12..]);
-        well = well & moved.well;
-        p += 1;
+        let at = half + p * 12;
+        w[at..at + 12].copy_from_slice(&ns);
+        well &= moved.well;
     }
     well
 }
@@ -99,11 +93,7 @@ fn accept(w: &mut [f64])
     ensures { w.new ≡ taken_over w.old }
 {
     let half = (w.len() / 24) * 12;
-    let mut i = 0usize;
-    while i < half {
-        w[i] = w[half + i];
-        i += 1;
-    }
+    w.copy_within(half..half + half, 0);
 }
 
 // The trial of a step: its poses, then their cost, judged against the cost so far.
@@ -125,8 +115,8 @@ fn evaluate_trial(
     let half = (w.len() / 24) * 12;
     let found = costs::active_total_squared_residual_cost(&w[half..], ends, edges, blocks, free);
     match found {
-        Cost::Of(new) => decisions::judge(cost, new),
-        Cost::Bad { edge: _, why: _ } => Trial::Rejected(Reason::Numerical(Numerical::Unpriced)),
+        Ok(new) => decisions::judge(cost, new),
+        Err(_) => Trial::Rejected(Reason::Numerical(Numerical::Unpriced)),
     }
 }
 
@@ -145,7 +135,7 @@ pub fn try_step(
     ensures w_value { w.new ≡ try_leaves result w.old (trial_in m (slot_in blocks.now free) (λ i. get_or step.now i nan) w.old) }
 {
     let norm = l2_norm(step);
-    if norm < numbers::widen(STEP_SIZE_TOLERANCE) {
+    if norm < f64::from(STEP_SIZE_TOLERANCE) {
         return Outcome::Small;
     }
     let t = evaluate_trial(m, ends, edges, blocks, free, cost, step, w);

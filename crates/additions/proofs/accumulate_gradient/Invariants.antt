@@ -1,4 +1,3 @@
-use Prim.Native.Nat.{◌≤◌, ◌-◌}
 use mathlib.Core.Path.{◌≡◌}
 use lib.ListN.{length}
 use Rattle.numbers.specs.Walks.{each, done}
@@ -6,7 +5,4 @@ use Rattle.additions.specs.Additions.{dot_with, add_to}
 use Rattle.additions.proofs.accumulate_gradient.Given as goal
 
 abbrev pub invariant-loop-c : goal.invariant-loop-c
-invariant-loop-c l = (l.c ≤ l.dof) × (length l.part ≡ length l.initial.part) × (each (λ k x. add_to x k (dot_with l.j k l.r)) l.c l.initial.part ≡ done l.part)
-
-abbrev pub decreases-loop-c : goal.decreases-loop-c
-decreases-loop-c l = l.dof - l.c
+invariant-loop-c l = (length l.part ≡ length l.initial.part) × (each (λ k x. add_to x k (dot_with l.j k l.r)) l.c l.initial.part ≡ done l.part)

@@ -1,4 +1,4 @@
-use Prim.Native.Nat.{◌+◌, ◌*◌, ◌≤◌, ◌-◌}
+use Prim.Native.Nat.{◌+◌, ◌*◌}
 use mathlib.Core.Path.{◌≡◌}
 use lib.ListN.{length}
 use Rattle.numbers.specs.Walks.{each, done}
@@ -7,8 +7,5 @@ use Rattle.additions.proofs.accumulate_row.Given as goal
 
 abbrev pub invariant-loop-c : goal.invariant-loop-c
 invariant-loop-c l =
-    (l.c ≤ l.dof) × (length l.w ≡ length l.initial.w)
+    (length l.w ≡ length l.initial.w)
     × (each (λ k. entry_added lower_triangle l.n (l.rb * l.dof + l.r) (l.cb * l.dof + k) l.jr l.r l.jc k) l.c l.initial.w ≡ done l.w)
-
-abbrev pub decreases-loop-c : goal.decreases-loop-c
-decreases-loop-c l = l.dof - l.c

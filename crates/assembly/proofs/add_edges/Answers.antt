@@ -11,8 +11,8 @@ loop-k-init c = (omega arith, refl, each_none _ _)
 pub add_edge-requires : goal.add_edge-requires
 add_edge-requires c = (c.requires.0, omega arith, omega arith)
 
-pub returns-in-Bad : goal.returns-in-Bad
-returns-in-Bad c = bad_edge _ _ c.loop-k.k _ c.loop-k.invariant.2 c.add_edge.ensures c.in-Bad.is c.loop-k-test.true
+pub returns-in-Err : goal.returns-in-Err
+returns-in-Err c = bad_edge _ _ c.loop-k.k _ c.loop-k.invariant.2 c.add_edge.ensures c.in-Err.is c.loop-k-test.true
 
 pub loop-k-preserved : goal.loop-k-preserved
 loop-k-preserved c = (

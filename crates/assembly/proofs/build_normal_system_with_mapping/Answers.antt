@@ -32,13 +32,13 @@ overflow_mul-n-2 c =
     let s = has_space (need (c.dof.result * a.free)) (length a.w.now) c.has_room.ensures c.if-not-has_room.false-raw in
     omega arith
 
-pub slice_bounds-clear32-end : goal.slice_bounds-clear32-end
-slice_bounds-clear32-end c =
+pub slice_bounds-clear-end : goal.slice_bounds-clear-end
+slice_bounds-clear-end c =
     let a = c.args in
     has_space (need (c.dof.result * a.free)) (length a.w.now) c.has_room.ensures c.if-not-has_room.false-raw
 
-pub slice_bounds-clear32-end-2 : goal.slice_bounds-clear32-end-2
-slice_bounds-clear32-end-2 c =
+pub slice_bounds-clear-end-2 : goal.slice_bounds-clear-end-2
+slice_bounds-clear-end-2 c =
     let a = c.args in
     sym (length-take-le (need (c.dof.result * a.free)) a.w.now
     (has_space (need (c.dof.result * a.free)) (length a.w.now) c.has_room.ensures c.if-not-has_room.false-raw))
@@ -51,7 +51,7 @@ add_all-requires c =
       omega arith,
       c.count_blocks.ensures,
       room_kept (c.dof.result * a.free) a.w.now
-          (cleared_first (c.dof.result * a.free) a.w.now s c.clear32.ensures) s,
+          (cleared_first (c.dof.result * a.free) a.w.now s c.clear.ensures) s,
     )
 
 pub returns : goal.returns
@@ -60,5 +60,5 @@ returns c =
     let s = has_space (need (c.dof.result * a.free)) (length a.w.now) c.has_room.ensures c.if-not-has_room.false-raw in
     rw (← c.dof.ensures)
     (assembled_by a.m (c.dof.result * a.free) (lent_links a.ends.now a.edges.now a.blocks.now a.free) (pose_at a.poses.now) a.w.now
-    c.has_room.ensures c.if-not-has_room.false-raw (cleared_first (c.dof.result * a.free) a.w.now s c.clear32.ensures)
+    c.has_room.ensures c.if-not-has_room.false-raw (cleared_first (c.dof.result * a.free) a.w.now s c.clear.ensures)
     c.add_all.ensures)

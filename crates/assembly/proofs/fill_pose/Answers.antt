@@ -9,12 +9,12 @@ fill_probes-requires c =
     let pre = c.requires in
     (pre.0, subst (λ (d : ℕ). d ≤ 6) (sym c.dof.ensures) (dof_most c.args.m), pre.2)
 
-pub returns-in-Fixed : goal.returns-in-Fixed
-returns-in-Fixed c = posed_fixed _ _ c.args.slot _ _ c.in-Fixed.is
+pub returns-in_default : goal.returns-in_default
+returns-in_default c = posed_fixed _ _ c.args.slot _ _ c.in_default.is
 
-pub returns-in-Block : goal.returns-in-Block
-returns-in-Block c =
-    posed_free _ _ c.args.slot _ _ _ c.in-Block.is
+pub returns-in-Some : goal.returns-in-Some
+returns-in-Some c =
+    posed_free _ _ c.args.slot _ _ _ c.in-Some.is
     (probed_stance _ _ _ _
     c.requires.3
     c.requires.1

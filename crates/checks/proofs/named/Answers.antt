@@ -6,22 +6,18 @@ use lib.ListN.{length}
 use Rattle.numbers.specs.Walks.{table}
 use Rattle.numbers.proofs.Tables.{replicate_table}
 use Rattle.checks.proofs.Marks.{named_by, named_none, named_more}
-use borrow.Author.Rules.{rules}
 use Rattle.checks.proofs.named.Goals as goal
 
 pub loop-k-init : goal.loop-k-init
-loop-k-init c = (search rules, search rules, replicate_table 256 false ∙ named_none c.args.ends.now 256)
+loop-k-init c = replicate_table 256 false ∙ named_none c.args.ends.now 256
 
 pub loop-k-preserved : goal.loop-k-preserved
 loop-k-preserved c =
-    let a = c.args in (
-      omega arith,
-      omega arith,
-      c.mark-in-loop-k.ensures ∙ (rw (c.end_b.ensures, c.mark.ensures, c.end_a.ensures) (named_more a.ends.now c.loop-k.k 256 _ c.loop-k.invariant.2)),
-    )
+    c.mark-in-loop-k.ensures
+    ∙ (rw (c.ends_at-a.ensures.1, c.mark.ensures, c.ends_at-a.ensures.0) (named_more c.args.ends.now c.loop-k.k 256 _ c.loop-k.invariant))
 
 pub returns : goal.returns
 returns c =
     let a = c.args in
     let e : c.loop-k.k ≡ length a.ends.now / 2 = omega arith in
-    c.loop-k.invariant.2 ∙ ap (λ (m : ℕ). table (named_by a.ends.now m) 256) e
+    c.loop-k.invariant ∙ ap (λ (m : ℕ). table (named_by a.ends.now m) 256) e

@@ -12,15 +12,14 @@ use Rattle.graph.specs.Lent.{none}
 use Rattle.checks.specs.Input.{lent_graph}
 use Rattle.checks.specs.Table.{block_number}
 use Rattle.numbers.proofs.Filling.{filled, fill_none, fill_store, fill_keep, fill_all}
-use borrow.Author.Rules.{rules}
 use Rattle.checks.proofs.numbered.Goals as goal
-use Rattle.checks.proofs.numbered.Goals.{else-marks-x, then-marks-x}
+use Rattle.checks.proofs.numbered.Goals.{else-is_free, then-is_free}
 
 pub loop-x-init : goal.loop-x-init
 loop-x-init c =
     let a = c.args in
     let g = lent_graph [] a.ends.now [] a.fixed.now in
-    (search rules, replicate_table 256 none ∙ fill_none (block_number g) none 256, count_none (is_free g))
+    (replicate_table 256 none ∙ fill_none (block_number g) none 256, count_none (is_free g))
 
 pub overflow_add-free : goal.overflow_add-free
 overflow_add-free c =
@@ -36,14 +35,23 @@ loop-x-preserved c =
     let x = c.loop-x.x in
     let m = c.free_poses-marks.ensures in
     let h : x < 256 = c.loop-x-test.true in (
-      (elim c.if-marks-x.branch [ then-marks-x w ↦ omega arith | else-marks-x w ↦ omega arith ]),
-      (elim c.if-marks-x.branch [ then-marks-x w ↦ w.at-is ∙ fill_store (block_number g) none 256 x _ _ h c.loop-x.invariant.1 (taken none (table_read (is_free g) 256 x false true _ m h w.if-marks-x.true) c.loop-x.invariant.2) | else-marks-x w ↦ w.at-is ∙ fill_keep (block_number g) none 256 x _ c.loop-x.invariant.1 (left (block_of g x) (table_read (is_free g) 256 x false false _ m h w.if-marks-x.false) refl) ]),
-      (elim c.if-marks-x.branch [ then-marks-x w ↦ w.free-is ∙ count_yes (is_free g) x _ c.loop-x.invariant.2 (table_read (is_free g) 256 x false true _ m h w.if-marks-x.true) | else-marks-x w ↦ w.free-is ∙ count_no (is_free g) x _ c.loop-x.invariant.2 (table_read (is_free g) 256 x false false _ m h w.if-marks-x.false) ]),
+      (elim c.if-is_free.branch [
+        | then-is_free w ↦ w.at-is ∙ fill_store (block_number g) none 256 x _ _ h c.loop-x.invariant.0
+            (taken none (table_read (is_free g) 256 x false true _ m h w.if-is_free.true) c.loop-x.invariant.1)
+        | else-is_free w ↦ w.at-is ∙ fill_keep (block_number g) none 256 x _ c.loop-x.invariant.0
+            (left (block_of g x) (table_read (is_free g) 256 x false false _ m h w.if-is_free.false) refl)
+      ]),
+      (elim c.if-is_free.branch [
+        | then-is_free w ↦ w.free-is ∙ count_yes (is_free g) x _ c.loop-x.invariant.1 (table_read (is_free g) 256 x false true _ m h w.if-is_free.true)
+        | else-is_free w ↦ w.free-is ∙ count_no (is_free g) x _ c.loop-x.invariant.1 (table_read (is_free g) 256 x false false _ m h w.if-is_free.false)
+      ]),
     )
 
 pub returns : goal.returns
 returns c =
     let a = c.args in
     let g = lent_graph [] a.ends.now [] a.fixed.now in
-    let e : c.loop-x.x ≡ 256 = omega arith in
-    (fill_all (block_number g) none 256 _ (c.loop-x.invariant.1 ∙ ap (λ (m : ℕ). table (filled (block_number g) none m) 256) e), c.loop-x.invariant.2 ∙ ap (count (is_free g)) e)
+    let e : c.loop-x.x ≡ 256 = omega arith in (
+      fill_all (block_number g) none 256 _ (c.loop-x.invariant.0 ∙ ap (λ (m : ℕ). table (filled (block_number g) none m) 256) e),
+      c.loop-x.invariant.1 ∙ ap (count (is_free g)) e,
+    )

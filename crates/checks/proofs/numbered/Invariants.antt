@@ -1,5 +1,4 @@
 use mathlib.Core.List.{[]}
-use Prim.Native.Nat.{◌≤◌, ◌-◌}
 use mathlib.Core.Path.{◌≡◌}
 use Rattle.numbers.specs.Walks.{count, table}
 use Rattle.graph.specs.Graph.{is_free}
@@ -11,7 +10,5 @@ use Rattle.checks.proofs.numbered.Given as goal
 
 abbrev pub invariant-loop-x : goal.invariant-loop-x
 invariant-loop-x l =
-    (l.x ≤ 256) × (l.at ≡ table (filled (block_number (lent_graph [] l.ends [] l.fixed)) none l.x) 256) × (l.free ≡ count (is_free (lent_graph [] l.ends [] l.fixed)) l.x)
-
-abbrev pub decreases-loop-x : goal.decreases-loop-x
-decreases-loop-x l = 256 - l.x
+    let g = lent_graph [] l.ends [] l.fixed in
+    (l.at ≡ table (filled (block_number g) none l.x) 256) × (l.free ≡ count (is_free g) l.x)

@@ -1,10 +1,11 @@
+use Rattle.numbers.proofs.Question.{handed_on}
 use Rattle.costs.specs.Costs.{priced}
 use Rattle.costs.proofs.accumulate_edge_squared_cost.Goals as goal
 
-pub returns-in-Six : goal.returns-in-Six
+pub returns : goal.returns
 unfolding priced
-returns-in-Six c = rw (c.in-Six.is, ← c.six_of.ensures) c.add_squares.ensures
+returns c = rw (c.in_ok-d.was, ← c.six_of.ensures) c.add_squares.ensures
 
-pub returns-in-Failed : goal.returns-in-Failed
+pub returns-in_err-d : goal.returns-in_err-d
 unfolding priced
-returns-in-Failed c = rw c.in-Failed.is
+returns-in_err-d c = rw c.in_err-d.was (handed_on _ c.from_residual.ensures.1)

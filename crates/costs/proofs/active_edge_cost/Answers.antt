@@ -1,6 +1,9 @@
+use Rattle.numbers.specs.Walks.{made}
+use Rattle.numbers.specs.declared.Failure.{Failure}
+use Rattle.exp_log.specs.Formats.{Twist}
+use Rattle.std.specs.Prelude.{Result}
 use Rattle.costs.proofs.Costing.{passed_over, counted}
-use Rattle.residual.specs.declared.Residual.{Residual}
-use Rattle.costs.specs.Costs.{priced, priced_from}
+use Rattle.costs.specs.Costs.{priced}
 use Rattle.graph.specs.Lent.{pose_at, lent_links}
 use mathlib.Core.Path.{ap, ◌∙◌}
 use Rattle.costs.proofs.Stowing.{residual_stowed}
@@ -11,8 +14,8 @@ returns-then-not-active c =
     let a = c.args in
     passed_over (lent_links a.ends.now a.edges.now a.blocks.now a.free) (pose_at a.poses.now) a.k a.c
     c.index_at-a.ensures c.index_at-b.ensures
-    c.slot_at.ensures c.slot_at-2.ensures c.is_block.ensures
-    c.is_block-2.ensures c.if-not-active.true-raw
+    c.slot_at.ensures c.slot_at-2.ensures c.is_some.ensures
+    c.is_some-2.ensures c.if-not-active.true-raw
 
 pub returns : goal.returns
 returns c =
@@ -21,6 +24,6 @@ returns c =
     let six = residual_stowed a.poses.now a.known.now a.count _ _ _ c.requires.1 linked c.six_in.ensures in
     counted (lent_links a.ends.now a.edges.now a.blocks.now a.free) (pose_at a.poses.now) a.k a.c
     c.index_at-a.ensures c.index_at-b.ensures
-    c.slot_at.ensures c.slot_at-2.ensures c.is_block.ensures
-    c.is_block-2.ensures c.if-not-active.false-raw
-    (c.accumulate_edge_squared_cost.ensures ∙ ap (λ (r : Residual). priced_from (priced r a.c)) six)
+    c.slot_at.ensures c.slot_at-2.ensures c.is_some.ensures
+    c.is_some-2.ensures c.if-not-active.false-raw
+    (c.accumulate_edge_squared_cost.ensures ∙ ap (λ (r : Result Twist Failure). made (priced r a.c)) six)

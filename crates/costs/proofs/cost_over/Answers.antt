@@ -8,24 +8,20 @@ use Rattle.costs.proofs.cost_over.Goals as goal
 
 pub loop-k-init : goal.loop-k-init
 unfolding ratio of_bits
-loop-k-init c = (omega arith, each_none _ _)
+loop-k-init c = each_none _ _
 
 pub active_edge_cost-requires : goal.active_edge_cost-requires
 active_edge_cost-requires c = (c.loop-k-test.true, c.requires)
 
-pub returns-in-Bad : goal.returns-in-Bad
+pub returns-in-Err : goal.returns-in-Err
 unfolding cost_of cost_ends
-returns-in-Bad c =
-    cost_stop _ _ _ c.loop-k.invariant.1 _ c.active_edge_cost.ensures
-    c.in-Bad.is c.loop-k-test.true
+returns-in-Err c =
+    cost_stop _ _ _ c.loop-k.invariant _ c.active_edge_cost.ensures
+    c.in-Err.is c.loop-k-test.true
 
 pub loop-k-preserved : goal.loop-k-preserved
-loop-k-preserved c = (
-  omega arith,
-  cost_more _ _ _ c.loop-k.invariant.1 c.active_edge_cost.ensures
-      c.in-Of.is,
-)
+loop-k-preserved c = cost_more _ _ _ c.loop-k.invariant c.active_edge_cost.ensures c.in-Ok.is
 
 pub returns : goal.returns
 unfolding cost_of cost_ends
-returns c = cost_end _ _ _ _ c.loop-k.invariant.1 (omega arith)
+returns c = cost_end _ _ _ _ c.loop-k.invariant (omega arith)

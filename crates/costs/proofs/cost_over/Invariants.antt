@@ -1,10 +1,9 @@
-use Prim.Native.Nat.{ℕ, ◌≤◌, ◌-◌}
+use Prim.Native.Nat.{ℕ}
 use mathlib.Core.Path.{◌≡◌}
 use mathlib.Core.List.{List}
 use lib.Ieee.{Float}
 use Rattle.numbers.specs.Notation.{num}
-use Rattle.numbers.specs.Walks.{each, done, only}
-use Rattle.numbers.specs.declared.Went.{Went}
+use Rattle.numbers.specs.Walks.{each, done, only, Went}
 use Rattle.graph.specs.Graph.{is_active}
 use Rattle.graph.specs.Lent.{pose_at, lent_links}
 use Rattle.costs.specs.Costs.{price_at}
@@ -15,7 +14,4 @@ steps poses ends edges blocks free k =
     only (is_active (lent_links ends edges blocks free) k) (price_at (lent_links ends edges blocks free) (pose_at poses) k)
 
 abbrev pub invariant-loop-k : goal.invariant-loop-k
-invariant-loop-k l = (l.k ≤ l.all) × (each (steps l.poses l.ends l.edges l.blocks l.free) l.k (num 0) ≡ done l.c)
-
-abbrev pub decreases-loop-k : goal.decreases-loop-k
-decreases-loop-k l = l.all - l.k
+invariant-loop-k l = each (steps l.poses l.ends l.edges l.blocks l.free) l.k (num 0) ≡ done l.c

@@ -2,10 +2,10 @@ use Rattle.numbers.specs.Notation.{ratio}
 use lib.Ieee.{of_bits}
 use Rattle.costs.proofs.eight_of.Goals as goal
 
-pub returns-in-Into : goal.returns-in-Into
+pub returns-in-Ok : goal.returns-in-Ok
 unfolding ratio of_bits
-returns-in-Into c = rw c.in-Into.is
+returns-in-Ok c = rw c.in-Ok.is
 
-pub returns-in-Bad : goal.returns-in-Bad
+pub returns-in-Err : goal.returns-in-Err
 unfolding ratio of_bits
-returns-in-Bad c = rw c.in-Bad.is
+returns-in-Err c = rw c.in-Err.is

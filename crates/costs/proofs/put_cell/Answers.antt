@@ -7,12 +7,12 @@ use Rattle.costs.specs.Stowed.{with_cell}
 use Rattle.costs.proofs.Stowing.{cell_length}
 use Rattle.costs.proofs.put_cell.Goals as goal
 
-pub slice_bounds-copy32-end : goal.slice_bounds-copy32-end
-slice_bounds-copy32-end c = sym (ap length c.eight_of.ensures ∙ cell_length c.args.x)
+pub slice_bounds-copy-end : goal.slice_bounds-copy-end
+slice_bounds-copy-end c = sym (ap length c.eight_of.ensures ∙ cell_length c.args.x)
 
 pub returns : goal.returns
 unfolding with_cell
 returns c =
     copied_within (c.args.e * 8) 8 c.args.l.now c.requires _ c.eight_of.ensures
     (cell_length c.args.x)
-    c.copy32.ensures
+    c.copy.ensures

@@ -1,10 +1,10 @@
 use Rattle.decisions.specs.Run.{after_turn, then_solve}
 use Rattle.decisions.proofs.turn.Goals as goal
 
-pub returns-in-Stop : goal.returns-in-Stop
+pub returns-in-Some : goal.returns-in-Some
 unfolding after_turn then_solve
-returns-in-Stop c = simp (← c.pass_top.ensures, c.in-Stop.is)
+returns-in-Some c = simp (← c.pass_top.ensures, c.in-Some.is)
 
-pub returns-in-Go : goal.returns-in-Go
+pub returns-in-None : goal.returns-in-None
 unfolding after_turn then_solve
-returns-in-Go c = simp (c.after_solve.ensures, c.hear.ensures, ← c.pass_top.ensures, c.in-Go.is)
+returns-in-None c = simp (c.after_solve.ensures, c.hear.ensures, ← c.pass_top.ensures, c.in-None.is)

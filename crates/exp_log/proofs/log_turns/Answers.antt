@@ -11,4 +11,4 @@ returns c =
     let other =
     turn_parts _ c.upright_of-b.ensures c.half-b1.ensures c.half-b2.ensures
     c.half-2.ensures c.angle_from-v.ensures c.unbend_of-2.ensures in
-    λ i. record { first = one i; second = other i }
+    λ i. record { ahead = one i; behind = other i }

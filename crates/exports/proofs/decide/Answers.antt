@@ -1,3 +1,4 @@
+use Rattle.std.specs.Prelude.{Some}
 use mathlib.Core.Path.{sym, ap, ◌∙◌, subst}
 use Prim.Native.Nat.{◌<◌}
 use lib.Dec.{T}
@@ -8,14 +9,13 @@ use Rattle.decisions.specs.Machine.{state_of}
 use Rattle.decisions.specs.declared.Next.{Next}
 use Rattle.sparse_pgo.proofs.Running.{counted}
 use Rattle.exports.specs.Exported.{decision_of, decision_from}
-use Rattle.exports.specs.declared.Decided.TheVariants.{Ended}
 use Rattle.exports.proofs.Telling.{few_iterations}
 use Rattle.exports.proofs.decide.Goals as goal
 
-pub returns-in-Refused : goal.returns-in-Refused
-returns-in-Refused c =
+pub returns-in-Err : goal.returns-in-Err
+returns-in-Err c =
     ap (decision_from c.args.set c.args.cost c.args.events.now c.args.prices.now)
-    (sym c.in-Refused.is ∙ c.validate_settings.ensures)
+    (sym c.in-Err.is ∙ c.validate_settings.ensures)
 
 pub returns-in_default-n : goal.returns-in_default-n
 returns-in_default-n c =
@@ -35,6 +35,6 @@ overflow_add-s c =
 
 pub returns : goal.returns
 returns c =
-    ap Ended c.answer_of.ensures ∙ ap (decision_of c.args.cost) (sym c.in-Over.is ∙ c.drive-n.ensures)
+    ap Some c.answer_of.ensures ∙ ap (decision_of c.args.cost) (sym c.in-Over.is ∙ c.drive-n.ensures)
     ∙ ap (decision_from c.args.set c.args.cost c.args.events.now c.args.prices.now)
     (sym c.in_default.is ∙ c.validate_settings.ensures)

@@ -1,4 +1,3 @@
-use Prim.Native.Nat.{◌-◌}
 use mathlib.Core.Path.{◌≡◌, refl, ap, ◌∙◌}
 use native.Mathlib.Numerals.{add-one}
 use native.Mathlib.Omega.{arith}
@@ -7,15 +6,15 @@ use Rattle.numbers.specs.Walks.{every}
 use Rattle.exports.specs.Exported.{known}
 use Rattle.exports.proofs.known_events.Goals as goal
 
-pub loop-i-init : goal.loop-i-init
+pub loop-event-init : goal.loop-event-init
 unfolding every
-loop-i-init c = (omega arith, refl)
+loop-event-init c = refl
 
-pub loop-i-preserved : goal.loop-i-preserved
+pub loop-event-preserved : goal.loop-event-preserved
 unfolding every
-loop-i-preserved c = (omega arith, rw (add-one, c.loop-i.invariant.1))
+loop-event-preserved c = rw (add-one, c.loop-event.invariant)
 
 pub returns : goal.returns
 returns c =
-    let e : c.loop-i.i ≡ length c.args.events.now = omega arith in
-    c.loop-i.invariant.1 ∙ ap (known c.args.events.now) e
+    let e : c.loop-event.event-index ≡ length c.args.events.now = omega arith in
+    c.loop-event.invariant ∙ ap (known c.args.events.now) e

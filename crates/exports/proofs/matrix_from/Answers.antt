@@ -3,4 +3,4 @@ use Rattle.exports.proofs.matrix_from.Goals as goal
 
 pub returns : goal.returns
 unfolding matrix_from
-returns c = rw (c.vec32_from-3.ensures, c.vec32_from-2.ensures, c.vec32_from.ensures)
+returns c = rw (c.vec_from-3.ensures, c.vec_from-2.ensures, c.vec_from.ensures)

@@ -1,7 +1,7 @@
 use mathlib.Core.Path.{refl, ap, ◌∙◌}
 use lib.Dec.{eqb}
 use Rattle.numbers.specs.Notation.{if_then}
-use Rattle.rotations.specs.declared.Vec3.{Vec3}
+use Rattle.rotations.specs.Formats.{Vec3}
 use Rattle.graph.specs.declared.Manifold.{Manifold}
 use Rattle.graph.specs.declared.Manifold.TheVariants.{Se3, Gravity}
 use Rattle.numbers.proofs.Steps.{passed, turned_away}

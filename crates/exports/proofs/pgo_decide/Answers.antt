@@ -28,4 +28,4 @@ unfolding decided ratio of_bits
 returns c =
     passed _ c.decide_fits.ensures c.if-not-decide_fits.false-raw
     (c.put_answer.ensures ∙ ap (decided_as c.args.answer.now c.args.costs.now)
-    (sym c.in-Ended.is ∙ c.decide.ensures))
+    (sym c.in-Some.is ∙ c.decide.ensures))

@@ -21,8 +21,8 @@ returns-in_default c =
     let found : (let a = c.args in c.exp.result ≡ exp_of (three a.delta.now) (vec (number_at a.delta.now 3) (number_at a.delta.now 4) (number_at a.delta.now 5))) = c.exp.ensures ∙ rw (c.widened_from-2.ensures, c.widened_from.ensures) in
     passed _ refl c.if-not-delta-out.false-raw (ap (moved_out c.args.out.now) (sym c.in_default.is ∙ found))
 
-pub slice_bounds-copy32-end : goal.slice_bounds-copy32-end
-slice_bounds-copy32-end c = sym (ap length c.transform_numbers.ensures)
+pub slice_bounds-copy-end : goal.slice_bounds-copy-end
+slice_bounds-copy-end c = sym (ap length c.transform_numbers.ensures)
 
 pub returns : goal.returns
 unfolding exp_out
@@ -30,5 +30,5 @@ returns c =
     let found : (let a = c.args in c.exp.result ≡ exp_of (three a.delta.now) (vec (number_at a.delta.now 3) (number_at a.delta.now 4) (number_at a.delta.now 5))) = c.exp.ensures ∙ rw (c.widened_from-2.ensures, c.widened_from.ensures) in
     passed _ refl c.if-not-delta-out.false-raw
     (rw (copied_as _ c.args.out.now c.transform_numbers.ensures
-    (eqb-true _ _ (and_second (eqb (length c.args.delta.now) 6) _ c.if-not-delta-out.false)) c.copy32.ensures)
-    (ap (moved_out c.args.out.now) (sym c.in-To.is ∙ found)))
+    (eqb-true _ _ (and_second (eqb (length c.args.delta.now) 6) _ c.if-not-delta-out.false)) c.copy.ensures)
+    (ap (moved_out c.args.out.now) (sym c.in-Some.is ∙ found)))

@@ -12,8 +12,8 @@ pub returns-then-not-a-out : goal.returns-then-not-a-out
 unfolding inverse_out
 returns-then-not-a-out c = turned_away _ refl c.if-not-a-out.true-raw refl
 
-pub slice_bounds-copy32-end : goal.slice_bounds-copy32-end
-slice_bounds-copy32-end c = sym (ap length c.transform_numbers.ensures)
+pub slice_bounds-copy-end : goal.slice_bounds-copy-end
+slice_bounds-copy-end c = sym (ap length c.transform_numbers.ensures)
 
 pub returns : goal.returns
 unfolding inverse_out
@@ -21,7 +21,7 @@ returns c =
     passed _ refl c.if-not-a-out.false-raw
     (rw (
       copied_as _ c.args.out.now c.transform_numbers.ensures
-          (eqb-true _ _ (and_second (eqb (length c.args.a.now) 7) _ c.if-not-a-out.false)) c.copy32.ensures,
+          (eqb-true _ _ (and_second (eqb (length c.args.a.now) 7) _ c.if-not-a-out.false)) c.copy.ensures,
       c.inverse_of-p.ensures,
       c.transform_from.ensures,
     ))

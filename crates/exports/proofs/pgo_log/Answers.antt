@@ -12,8 +12,8 @@ pub returns-then-not-t-out : goal.returns-then-not-t-out
 unfolding log_out
 returns-then-not-t-out c = turned_away _ refl c.if-not-t-out.true-raw refl
 
-pub slice_bounds-copy32-end : goal.slice_bounds-copy32-end
-slice_bounds-copy32-end c = sym (ap length c.six_of.ensures)
+pub slice_bounds-copy-end : goal.slice_bounds-copy-end
+slice_bounds-copy-end c = sym (ap length c.six_of.ensures)
 
 pub returns : goal.returns
 unfolding log_out
@@ -21,7 +21,7 @@ returns c =
     passed _ refl c.if-not-t-out.false-raw
     (rw (
       copied_as _ c.args.out.now c.six_of.ensures
-          (eqb-true _ _ (and_second (eqb (length c.args.t.now) 7) _ c.if-not-t-out.false)) c.copy32.ensures,
+          (eqb-true _ _ (and_second (eqb (length c.args.t.now) 7) _ c.if-not-t-out.false)) c.copy.ensures,
       c.log-d.ensures,
       c.transform_from.ensures,
     ))

@@ -12,8 +12,8 @@ pub returns-then-not-fit : goal.returns-then-not-fit
 unfolding product_out
 returns-then-not-fit c = turned_away _ refl c.if-not-fit.true-raw refl
 
-pub slice_bounds-copy32-end : goal.slice_bounds-copy32-end
-slice_bounds-copy32-end c = sym (ap length c.transform_numbers.ensures)
+pub slice_bounds-copy-end : goal.slice_bounds-copy-end
+slice_bounds-copy-end c = sym (ap length c.transform_numbers.ensures)
 
 pub returns : goal.returns
 unfolding product_out
@@ -22,7 +22,7 @@ returns c =
     (rw (
       copied_as _ c.args.out.now c.transform_numbers.ensures
           (eqb-true _ _ (and_second (eqb (length c.args.b.now) 7) _ (and_second (eqb (length c.args.a.now) 7) _ c.if-not-fit.false)))
-          c.copy32.ensures,
+          c.copy.ensures,
       c.product_of-p.ensures,
       c.transform_from-2.ensures,
       c.transform_from.ensures,

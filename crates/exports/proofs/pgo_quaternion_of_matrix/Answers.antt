@@ -12,8 +12,8 @@ pub returns-then-not-m-out : goal.returns-then-not-m-out
 unfolding quaternion_out
 returns-then-not-m-out c = turned_away _ refl c.if-not-m-out.true-raw refl
 
-pub slice_bounds-copy32-end : goal.slice_bounds-copy32-end
-slice_bounds-copy32-end c = sym (ap length c.quat_numbers.ensures)
+pub slice_bounds-copy-end : goal.slice_bounds-copy-end
+slice_bounds-copy-end c = sym (ap length c.quat_numbers.ensures)
 
 pub returns : goal.returns
 unfolding quaternion_out
@@ -21,7 +21,7 @@ returns c =
     passed _ refl c.if-not-m-out.false-raw
     (rw (
       copied_as _ c.args.out.now c.quat_numbers.ensures
-          (eqb-true _ _ (and_second (eqb (length c.args.m.now) 9) _ c.if-not-m-out.false)) c.copy32.ensures,
+          (eqb-true _ _ (and_second (eqb (length c.args.m.now) 9) _ c.if-not-m-out.false)) c.copy.ensures,
       c.quat_of_matrix-q.ensures,
       c.matrix_from.ensures,
     ))

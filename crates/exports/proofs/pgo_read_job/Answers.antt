@@ -10,10 +10,10 @@ pub returns-then-answer-ne8 : goal.returns-then-answer-ne8
 unfolding read_out
 returns-then-answer-ne8 c = left _ (ne_eqb _ _ c.if-answer-ne8.true) refl
 
-pub slice_bounds-copy_counts-end : goal.slice_bounds-copy_counts-end
-slice_bounds-copy_counts-end c = sym (ap length c.read_answer.ensures ∙ read_long c.read_job-v.result)
+pub slice_bounds-copy-end : goal.slice_bounds-copy-end
+slice_bounds-copy-end c = sym (ap length c.read_answer.ensures ∙ read_long c.read_job-v.result)
 
 pub returns : goal.returns
 returns c =
-    read_told_lem _ _ _ c.if-answer-ne8.false c.read_job-v.ensures c.read_answer.ensures c.copy_counts.ensures
+    read_told_lem _ _ _ c.if-answer-ne8.false c.read_job-v.ensures c.read_answer.ensures c.copy.ensures
     c.read_number.ensures

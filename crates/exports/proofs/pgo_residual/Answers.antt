@@ -29,8 +29,8 @@ returns-in_default c =
     ) in
     passed _ refl c.if-not-a-b.false-raw (ap (six_out c.args.out.now) (sym c.in_default.is ∙ found))
 
-pub slice_bounds-copy32-end : goal.slice_bounds-copy32-end
-slice_bounds-copy32-end c = sym (ap length c.six_of.ensures)
+pub slice_bounds-copy-end : goal.slice_bounds-copy-end
+slice_bounds-copy-end c = sym (ap length c.six_of.ensures)
 
 pub returns : goal.returns
 unfolding residual_out
@@ -49,5 +49,5 @@ returns c =
     (rw (copied_as _ c.args.out.now c.six_of.ensures
     (eqb-true _ _ (and_second (eqb (length c.args.edge.now) 8) _
     (and_second (eqb (length c.args.b.now) 12) _ (and_second (eqb (length c.args.a.now) 12) _ c.if-not-a-b.false))))
-    c.copy32.ensures)
-    (ap (six_out c.args.out.now) (sym c.in-Six.is ∙ found)))
+    c.copy.ensures)
+    (ap (six_out c.args.out.now) (sym c.in-Ok.is ∙ found)))

@@ -21,8 +21,8 @@ returns-in_default c =
     let found : (let a = c.args in c.retract.result ≡ retract_of Se3 (pose a.pose.now) a.delta.now) = c.retract.ensures ∙ rw (c.step_from.ensures, c.pose_at-p.ensures, one_pose_lem) (first_six_do _ _ _) in
     passed _ refl c.if-not-pose-delta.false-raw (ap (restored_out c.args.out.now) (sym c.in_default.is ∙ found))
 
-pub slice_bounds-copy64-end : goal.slice_bounds-copy64-end
-slice_bounds-copy64-end c = sym (ap length c.numbers_of.ensures)
+pub slice_bounds-copy-end : goal.slice_bounds-copy-end
+slice_bounds-copy-end c = sym (ap length c.numbers_of.ensures)
 
 pub returns : goal.returns
 unfolding retract_out
@@ -31,5 +31,5 @@ returns c =
     passed _ refl c.if-not-pose-delta.false-raw
     (rw (copied_as _ c.args.out.now c.numbers_of.ensures
     (eqb-true _ _ (and_second (eqb (length c.args.delta.now) 6) _
-    (and_second (eqb (length c.args.pose.now) 12) _ c.if-not-pose-delta.false))) c.copy64.ensures)
-    (ap (restored_out c.args.out.now) (sym c.in-Into.is ∙ found)))
+    (and_second (eqb (length c.args.pose.now) 12) _ c.if-not-pose-delta.false))) c.copy.ensures)
+    (ap (restored_out c.args.out.now) (sym c.in-Ok.is ∙ found)))

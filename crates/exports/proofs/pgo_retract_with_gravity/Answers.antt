@@ -21,8 +21,8 @@ returns-in_default c =
     let found : (let a = c.args in c.retract.result ≡ retract_of (Gravity (three a.g.now)) (pose a.pose.now) a.delta.now) = c.retract.ensures ∙ rw (c.step_from.ensures, c.pose_at-p.ensures, c.vec_from.ensures, one_pose_lem) (first_six_do _ _ _) in
     passed _ refl c.if-not-g-pose.false-raw (ap (restored_out c.args.out.now) (sym c.in_default.is ∙ found))
 
-pub slice_bounds-copy64-end : goal.slice_bounds-copy64-end
-slice_bounds-copy64-end c = sym (ap length c.numbers_of.ensures)
+pub slice_bounds-copy-end : goal.slice_bounds-copy-end
+slice_bounds-copy-end c = sym (ap length c.numbers_of.ensures)
 
 pub returns : goal.returns
 unfolding retract_gravity_out
@@ -32,5 +32,5 @@ returns c =
     (rw (copied_as _ c.args.out.now c.numbers_of.ensures
     (eqb-true _ _ (and_second (eqb (length c.args.delta.now) 4) _
     (and_second (eqb (length c.args.pose.now) 12) _ (and_second (eqb (length c.args.g.now) 3) _ c.if-not-g-pose.false))))
-    c.copy64.ensures)
-    (ap (restored_out c.args.out.now) (sym c.in-Into.is ∙ found)))
+    c.copy.ensures)
+    (ap (restored_out c.args.out.now) (sym c.in-Ok.is ∙ found)))

@@ -1,4 +1,5 @@
-use mathlib.Core.Path.{refl, sym, ◌∙◌}
+use Rattle.std.specs.Prelude.{Err}
+use mathlib.Core.Path.{refl, sym, ap, ◌∙◌}
 use borrow.Author.Tests.{eq-eqb, ne_eqb}
 use Rattle.numbers.proofs.Choices.{taken, left}
 use Rattle.exports.specs.Layers.{solve_out}
@@ -16,20 +17,20 @@ pub returns-then-work-k : goal.returns-then-work-k
 unfolding solve_out
 returns-then-work-k c = left _ (ne_eqb _ _ c.if-work-k.true) refl
 
-pub returns-in-Step : goal.returns-in-Step
+pub returns-in-Ok : goal.returns-in-Ok
 unfolding solve_out
-returns-in-Step c =
+returns-in-Ok c =
     taken _ (eq-eqb _ _ c.if-work-k.false)
-    (rw (c.solve_damped.ensures.1, sym c.solve_damped.ensures.0 ∙ c.in-Step.is))
+    (rw (c.solve_damped.ensures.1, sym c.solve_damped.ensures.0 ∙ c.in-Ok.is))
 
 pub returns-in-Failed : goal.returns-in-Failed
 unfolding solve_out
 returns-in-Failed c =
     taken _ (eq-eqb _ _ c.if-work-k.false)
-    (rw (c.solve_damped.ensures.1, sym c.solve_damped.ensures.0 ∙ c.in-Failed.is))
+    (rw (c.solve_damped.ensures.1, sym c.solve_damped.ensures.0 ∙ c.in-Err.is ∙ ap Err c.in-Failed.is))
 
 pub returns-in-Short : goal.returns-in-Short
 unfolding solve_out
 returns-in-Short c =
     taken _ (eq-eqb _ _ c.if-work-k.false)
-    (rw (c.solve_damped.ensures.1, sym c.solve_damped.ensures.0 ∙ c.in-Short.is))
+    (rw (c.solve_damped.ensures.1, sym c.solve_damped.ensures.0 ∙ c.in-Err.is ∙ ap Err c.in-Short.is))

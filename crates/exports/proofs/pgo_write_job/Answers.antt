@@ -10,10 +10,10 @@ pub returns-then-answer-ne2 : goal.returns-then-answer-ne2
 unfolding write_out
 returns-then-answer-ne2 c = left _ (ne_eqb _ _ c.if-answer-ne2.true) refl
 
-pub slice_bounds-copy_counts-end : goal.slice_bounds-copy_counts-end
-slice_bounds-copy_counts-end c = sym (ap length c.written_two.ensures ∙ written_long c.write_job-v.result)
+pub slice_bounds-copy-end : goal.slice_bounds-copy-end
+slice_bounds-copy-end c = sym (ap length c.written_two.ensures ∙ written_long c.write_job-v.result)
 
 pub returns : goal.returns
 returns c =
-    written_told _ _ _ c.if-answer-ne2.false c.write_job-v.ensures c.written_two.ensures c.copy_counts.ensures
+    written_told _ _ _ c.if-answer-ne2.false c.write_job-v.ensures c.written_two.ensures c.copy.ensures
     c.written_number.ensures

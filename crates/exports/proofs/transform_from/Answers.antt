@@ -5,9 +5,9 @@ pub returns : goal.returns
 unfolding transform_from
 returns c =
     rw (
-      c.vec32_from.ensures,
-      c.at32-4.ensures,
-      c.at32-3.ensures,
-      c.at32-2.ensures,
-      c.at32.ensures,
+      c.vec_from.ensures,
+      c.at-4.ensures,
+      c.at-3.ensures,
+      c.at-2.ensures,
+      c.at.ensures,
     )

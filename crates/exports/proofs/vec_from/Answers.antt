@@ -1,4 +1,4 @@
 use Rattle.exports.proofs.vec_from.Goals as goal
 
 pub returns : goal.returns
-returns c = rw (c.at64-3.ensures, c.at64-2.ensures, c.at64.ensures)
+returns g c = rw (c.at-3.ensures, c.at-2.ensures, c.at.ensures)

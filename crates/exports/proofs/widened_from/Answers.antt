@@ -4,4 +4,4 @@ use Rattle.exports.proofs.widened_from.Goals as goal
 
 pub returns : goal.returns
 unfolding vec_f64
-returns c = c.vec3_to_f64.ensures ∙ ap vec_f64 c.vec32_from.ensures
+returns c = c.vec3_to_f64.ensures ∙ ap vec_f64 c.vec_from.ensures

@@ -10,4 +10,4 @@ returns-then-k-ge-FAR c = let a = c.args in c.no_edge.ensures ∙ ap edge_from (
 
 pub returns : goal.returns
 unfolding edge_from
-returns c = rw (c.at32.ensures, c.transform_at.ensures)
+returns c = rw (c.at.ensures, c.transform_at.ensures)

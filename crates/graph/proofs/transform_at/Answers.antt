@@ -6,12 +6,12 @@ pub returns : goal.returns
 unfolding edge_from
 returns c =
     rw (
-      c.at32-7.ensures,
-      c.at32-6.ensures,
-      c.at32-5.ensures,
-      c.at32-4.ensures,
-      c.at32-3.ensures,
-      c.at32-2.ensures,
-      c.at32.ensures,
+      c.at-7.ensures,
+      c.at-6.ensures,
+      c.at-5.ensures,
+      c.at-4.ensures,
+      c.at-3.ensures,
+      c.at-2.ensures,
+      c.at.ensures,
       add-zero c.args.at,
     )

@@ -1,4 +1,5 @@
-use mathlib.Core.Path.{◌≡◌, refl}
+use mathlib.Core.Path.{◌≡◌, refl, ◌∙◌}
+use Rattle.numbers.proofs.Question.{handed_on}
 use lib.Ieee.{of_bits}
 use Rattle.jacobians.proofs.Going.{column_more, jacobian_stopped, jacobian_whole}
 use native.Mathlib.Omega.{arith}
@@ -10,7 +11,7 @@ use Rattle.jacobians.proofs.columns.Goals as goal
 
 pub loop-c-init : goal.loop-c-init
 unfolding each ratio of_bits
-loop-c-init c = (omega arith, refl)
+loop-c-init c = refl
 
 pub column-requires : goal.column-requires
 column-requires c =
@@ -24,17 +25,15 @@ put_six-requires c =
     let d : c.dof-dof.result ≡ dof_of a.m = c.dof-dof.ensures in
     omega (arith, dof_most a.m)
 
-pub returns-in-Failed : goal.returns-in-Failed
-returns-in-Failed c =
-    jacobian_stopped _ _ _ _ _ c.loop-c.c c.dof-dof.ensures c.loop-c.invariant.1
-    c.column.ensures c.in-Failed.is c.loop-c-test.true c.code_of.ensures
+pub returns-in_err-d : goal.returns-in_err-d
+returns-in_err-d c =
+    handed_on _ c.from_residual.ensures.1
+    ∙ jacobian_stopped _ _ _ _ _ c.loop-c.c c.dof-dof.ensures c.loop-c.invariant c.column.ensures c.in_err-d.was c.loop-c-test.true
 
 pub loop-c-preserved : goal.loop-c-preserved
-loop-c-preserved c = (
-  omega arith,
-  column_more _ _ _ _ _ c.loop-c.c c.dof-dof.ensures c.loop-c.invariant.1
-      c.column.ensures c.in-Six.is c.put_six.ensures,
-)
+loop-c-preserved c =
+    column_more _ _ _ _ _ c.loop-c.c c.dof-dof.ensures c.loop-c.invariant
+    c.column.ensures c.in_ok-d.was c.put_six.ensures
 
 pub returns : goal.returns
-returns c = jacobian_whole _ _ _ _ _ c.loop-c.c c.dof-dof.ensures c.loop-c.invariant.1 (omega arith) c.code_of-2.ensures
+returns c = jacobian_whole _ _ _ _ _ c.loop-c.c c.dof-dof.ensures c.loop-c.invariant (omega arith)

@@ -1,13 +1,8 @@
-use Prim.Native.Nat.{◌-◌, ◌≤◌}
 use mathlib.Core.Path.{◌≡◌}
-use lib.ListN.{length}
 use Rattle.numbers.specs.Walks.{strung}
 use Rattle.job_records.specs.Bytes.{pasted}
 use Rattle.job.specs.Format.{pose_record}
 use Rattle.job.proofs.put_poses.Given as goal
 
 abbrev pub invariant-loop-i : goal.invariant-loop-i
-invariant-loop-i l = (l.i ≤ l.n) × (length l.out ≡ length l.initial.out) × (l.out ≡ pasted l.at (strung (pose_record l.poses) l.i) l.initial.out)
-
-abbrev pub decreases-loop-i : goal.decreases-loop-i
-decreases-loop-i l = l.n - l.i
+invariant-loop-i l = l.out ≡ pasted l.at (strung (pose_record l.poses) l.i) l.initial.out

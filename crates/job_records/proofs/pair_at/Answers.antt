@@ -1,8 +1,9 @@
--- `job_records::pair_at` meets its contract: the second byte counts 256 times. Assumes nothing.
-use Rattle.job_records.proofs.Faults.{pair_is}
+use mathlib.Core.Path.{◌∙◌}
+use Rattle.std.proofs.lemmas.Result.{MatchResult-at_ok}
+use Rattle.job_records.proofs.Words.{read_low, value_in}
 use Rattle.job_records.proofs.pair_at.Goals as goal
 
 pub returns : goal.returns
 returns c =
-    let a = c.args in
-    rw (c.wide8-2.ensures.0, c.wide8.ensures.0) (pair_is a.s.now a.at)
+    let part = MatchResult-at_ok _ _ _ c.unwrap.ensures c.try_from.ensures.1 in
+    c.from.ensures ∙ c.from_le_bytes.ensures ∙ read_low 1 c.unwrap.result ∙ value_in 2 c.args.at c.args.s.now _ part.same

@@ -11,10 +11,10 @@ returns c =
     rw (
       c.with_text.ensures,
       c.with_decimal-2.ensures,
-      c.wide-2.ensures,
+      c.from-2.ensures,
       c.with_text-l-2.ensures,
       c.with_decimal.ensures,
-      c.wide.ensures,
+      c.from.ensures,
       c.with_text-l.ensures,
       c.empty.ensures,
     )

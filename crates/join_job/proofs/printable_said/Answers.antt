@@ -10,14 +10,6 @@ pub returns-in-NoResidual : goal.returns-in-NoResidual
 unfolding printable_text
 returns-in-NoResidual c = rw (c.with_text-in-NoResidual.ensures, c.empty-in-NoResidual.ensures, c.in-NoResidual.is)
 
-pub returns-in-NotConverged : goal.returns-in-NotConverged
-unfolding printable_text
-returns-in-NotConverged c = rw (c.not_converged.ensures, c.in-NotConverged.is)
-
-pub returns-in-Tipped : goal.returns-in-Tipped
-unfolding printable_text
-returns-in-Tipped c = rw (c.tipped.ensures, c.in-Tipped.is)
-
 pub returns-in-CostKept : goal.returns-in-CostKept
 unfolding printable_text
 returns-in-CostKept c = rw (c.with_two.ensures, c.in-CostKept.is)

@@ -1,49 +1,23 @@
-use native.Mathlib.Omega.{arith}
-use mathlib.Core.Path.{sym, ap, ◌∙◌}
-use lib.ListN.{length, take}
-use lib.Seq.{length-take-le}
-use lib.Ieee.{binary64}
+use Rattle.std.proofs.Common.{ap, ◌∙◌, length, take, replicate}
+use Rattle.std.proofs.lemmas.Slice.Zip.{AllZip-map}
+use lib.Ieee.{binary32, binary64, of_bits, to_bits}
 use Rattle.numbers.specs.Notation.{num}
 use Rattle.sparse_pgo.specs.Optimize.{After}
 use Rattle.job.specs.Format.{space}
 use Rattle.join_job.specs.Joining.{patterns}
-use Rattle.join_job.proofs.Patterns.{take_replicate, blank_long, front_long, front_again, run_is, judged_is}
+use Rattle.join_job.proofs.Patterns.{take_replicate, zero64, run_is, judged_is}
 use Rattle.join_job.proofs.run_job.Goals as goal
-
-pub slice_bounds-judge_over-end : goal.slice_bounds-judge_over-end
-slice_bounds-judge_over-end c = sym (length-take-le _ _ (omega (arith, c.doubles-doubled.ensures.0)))
-
-pub slice_bounds-judge_over-end-2 : goal.slice_bounds-judge_over-end-2
-slice_bounds-judge_over-end-2 c = sym (length-take-le _ _ (omega (arith, c.singles-singled.ensures.0)))
-
-pub slice_bounds-judge_over-end-3 : goal.slice_bounds-judge_over-end-3
-slice_bounds-judge_over-end-3 c = sym (length-take-le _ _ (blank_long c.blank_doubles-out.ensures (omega arith)))
-
-pub slice_bounds-out-end-2 : goal.slice_bounds-out-end-2
-slice_bounds-out-end-2 c =
-    let n = length c.args.poses.now in
-    front_long n c.blank_doubles-out.result c.judge_over-a.new.out (blank_long c.blank_doubles-out.ensures c.requires.0) c.judge_over-a.auto.out
-
-pub slice_bounds-bits-end : goal.slice_bounds-bits-end
-slice_bounds-bits-end c =
-    let n = length c.args.poses.now in
-    sym (length-take-le _ _ (front_long n c.blank_doubles-out.result c.judge_over-a.new.out (blank_long c.blank_doubles-out.ensures c.requires.0) c.judge_over-a.auto.out))
-
-pub bits-requires : goal.bits-requires
-bits-requires c =
-    let n = length c.args.poses.now in
-    c.requires.2
-    ∙ sym (length-take-le _ _ (front_long n c.blank_doubles-out.result c.judge_over-a.new.out (blank_long c.blank_doubles-out.ensures c.requires.0) c.judge_over-a.auto.out))
 
 pub returns : goal.returns
 returns c =
-    let n = length c.args.poses.now in
     let a = c.args in
+    let n = length a.poses.now in
     let l = space a.poses.now a.ends.now a.edges.now a.fixed.now in
-    let p = c.doubles-doubled.ensures.1 in
-    let q = c.singles-singled.ensures.1 in
-    let r = ap (take n) c.blank_doubles-out.ensures ∙ take_replicate n 3072 (num 0) c.requires.0 in
-    let again = front_again n c.blank_doubles-out.result _ (blank_long c.blank_doubles-out.ensures c.requires.0) c.judge_over-a.auto.out in record {
+    let p = AllZip-map (of_bits binary64) a.poses.now c.convert.new.to c.convert.ensures in
+    let q = AllZip-map (of_bits binary32) a.edges.now c.convert-2.new.to c.convert-2.ensures in
+    let r = ap (take n) (c.blank-zeros.ensures.value ∙ ap (replicate 3072) zero64) ∙ take_replicate n 3072 (num 0) c.requires.0 in record {
       value = c.judge_over-a.ensures.value ∙ judged_is a.t l _ _ _ p q r;
-      value_2 = c.bits.ensures ∙ ap (patterns binary64) (again ∙ c.judge_over-a.ensures.out_value ∙ ap (λ (y : After). y.out) (run_is a.t l _ _ _ p q r));
+      value_2 =
+          AllZip-map (to_bits binary64) c.judge_over-a.new.out c.convert-3.new.to c.convert-3.ensures
+          ∙ ap (patterns binary64) (c.judge_over-a.ensures.out_value ∙ ap (λ (y : After). y.out) (run_is a.t l _ _ _ p q r));
     }

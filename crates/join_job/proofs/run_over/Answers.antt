@@ -1,15 +1,8 @@
-use mathlib.Core.Path.{sym, ap}
-use lib.ListN.{replicate, length-replicate}
-use lib.Ieee.{binary32, binary64, of_bits}
+use mathlib.Core.Path.{ap}
+use lib.ListN.{replicate}
 use Rattle.sparse_pgo.specs.Optimize.{After}
 use Rattle.join_job.proofs.Patterns.{over_is, zero32, zero64}
 use Rattle.join_job.proofs.run_over.Goals as goal
-
-pub slice_bounds-optimize-end : goal.slice_bounds-optimize-end
-slice_bounds-optimize-end c = sym (length-replicate 148608 (of_bits binary32 0))
-
-pub slice_bounds-optimize-end-2 : goal.slice_bounds-optimize-end-2
-slice_bounds-optimize-end-2 c = sym (length-replicate 6144 (of_bits binary64 0))
 
 pub returns : goal.returns
 returns c =

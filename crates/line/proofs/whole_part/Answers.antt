@@ -5,6 +5,7 @@ use Rattle.numbers.proofs.Choices.{taken, left}
 use Rattle.line.specs.FloatText.{whole_part}
 use Rattle.line.proofs.FloatLaws.{whole_fits}
 use Rattle.line.proofs.whole_part.Goals as goal
+use Rattle.line.proofs.whole_part.Goals.{else-v-via-then-v+else-v-2, else-v-via-else-v}
 
 pub truncating_f64_to_u64-requires-clause-lower_bound : goal.truncating_f64_to_u64-requires-clause-lower_bound
 unfolding ratio of_bits
@@ -18,10 +19,10 @@ pub returns-then-v-2 : goal.returns-then-v-2
 unfolding whole_part ratio of_bits
 returns-then-v-2 c = taken _ c.if-v.true (taken _ c.if-v-2.true c.truncating_f64_to_u64.ensures)
 
-pub returns-then-v : goal.returns-then-v
-unfolding whole_part ratio of_bits
-returns-then-v c = taken _ c.if-v.true (left _ c.if-v-2.false refl)
-
 pub returns : goal.returns
 unfolding whole_part ratio of_bits
-returns c = left _ c.if-v.false refl
+returns c =
+    elim c.else-v.branch [
+      | else-v-via-then-v+else-v-2 w ↦ taken _ w.if-v.true (left _ w.if-v-2.false refl)
+      | else-v-via-else-v w ↦ left _ w.if-v.false refl
+    ]

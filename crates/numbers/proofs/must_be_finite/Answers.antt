@@ -1,13 +1,14 @@
--- `numbers::must_be_finite` meets its contract: the test is `is_finite32`. Assumes nothing.
+-- `numbers::must_be_finite` meets its contract: std's test is that of the definition. Assumes nothing.
 use Rattle.std.proofs.Common.{sym, refl, ◌∙◌}
 use Rattle.numbers.specs.Walks.{must_be_finite}
 use Rattle.numbers.proofs.Choices.{taken, left}
+use Rattle.numbers.proofs.Finite.{finite_test}
 use Rattle.numbers.proofs.must_be_finite.Goals as goal
 
-pub returns-then-is_finite32 : goal.returns-then-is_finite32
+pub returns-then-finite : goal.returns-then-finite
 unfolding must_be_finite
-returns-then-is_finite32 c = taken _ (sym c.is_finite32.ensures ∙ c.if-is_finite32.true) refl
+returns-then-finite c = taken _ (sym (finite_test c.args.x c.is_finite-finite.ensures.value) ∙ c.if-finite.true) refl
 
-pub returns-else-is_finite32 : goal.returns-else-is_finite32
+pub returns-else-finite : goal.returns-else-finite
 unfolding must_be_finite
-returns-else-is_finite32 c = left _ (sym c.is_finite32.ensures ∙ c.if-is_finite32.false) refl
+returns-else-finite c = left _ (sym (finite_test c.args.x c.is_finite-finite.ensures.value) ∙ c.if-finite.false) refl

@@ -3,4 +3,4 @@ use Rattle.pose_conversion.proofs.vec3_to_f64.Goals as goal
 
 pub returns : goal.returns
 unfolding vec_f64
-returns c = rw (c.widen-3.ensures, c.widen-2.ensures, c.widen.ensures)
+returns c = rw (c.from-3.ensures, c.from-2.ensures, c.from.ensures)

@@ -2,13 +2,16 @@
 use mathlib.Core.Path.{sym, ◌∙◌}
 use lib.ListN.{length}
 use lib.Seq.{length-take-le}
+use Rattle.numbers.proofs.Question.{handed_on}
 use Rattle.scans.specs.Scans.{scan}
 use Rattle.pose_graph.proofs.Large.{at_built, ends_front, edges_front, original_long}
 use Rattle.pose_graph.proofs.Promises.{turned_down, run_if_fine}
 use Rattle.pose_graph.proofs.optimize_pose_graph.Goals as goal
 
-pub returns-in-Refused : goal.returns-in-Refused
-returns-in-Refused c = sym (turned_down _ _ _ _ _ _ _ (sym c.validate_scan-v.ensures ∙ c.in-Refused.is))
+pub returns-in_err-validate_scan : goal.returns-in_err-validate_scan
+returns-in_err-validate_scan c =
+    rw (handed_on _ c.from_residual.ensures.1)
+    (sym (turned_down _ _ _ _ _ _ _ (sym c.validate_scan.ensures ∙ c.in_err-validate_scan.was)))
 
 pub slice_bounds-run_and_judge-end : goal.slice_bounds-run_and_judge-end
 slice_bounds-run_and_judge-end c =
@@ -26,7 +29,7 @@ pub run_and_judge-requires : goal.run_and_judge-requires
 run_and_judge-requires c =
     let a = c.args in
     original_long a.ids.now a.loops.now (length a.poses.now) (length a.loop_poses.now) (length a.original.now)
-    (sym c.validate_scan-v.ensures ∙ c.in_default.is)
+    (sym c.validate_scan.ensures ∙ c.in_ok-validate_scan.was)
 
 pub returns : goal.returns
 returns c =
@@ -35,4 +38,4 @@ returns c =
     c.run_and_judge.ensures
     ∙ at_built _ _ _ s _ _ _ _ _ _ _ c.edges_built-n.ensures c.built_ends-ends.ensures c.built_edges-edges.ensures
     ∙ sym (run_if_fine _ _ _ _ _ _
-    (sym c.validate_scan-v.ensures ∙ c.in_default.is))
+    (sym c.validate_scan.ensures ∙ c.in_ok-validate_scan.was))

@@ -1,8 +1,8 @@
 -- `printable::add_residual` meets its contract: one that has a residual, and one that has none. Assumes nothing.
 use Rattle.printable.proofs.add_residual.Goals as goal
 
-pub returns-in-Six : goal.returns-in-Six
-returns-in-Six c = rw (c.residual_squared.ensures, c.in-Six.is)
+pub returns-in-Ok : goal.returns-in-Ok
+returns-in-Ok c = rw (c.residual_squared.ensures, c.in-Ok.is)
 
-pub returns-in-Failed : goal.returns-in-Failed
-returns-in-Failed c = rw c.in-Failed.is
+pub returns-in-Err : goal.returns-in-Err
+returns-in-Err c = rw c.in-Err.is

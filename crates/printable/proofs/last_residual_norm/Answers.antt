@@ -4,4 +4,4 @@ use Rattle.printable.proofs.last_residual_norm.Goals as goal
 
 pub returns : goal.returns
 unfolding last_residual
-returns c = rw (c.residual_norm.ensures, c.weighted_edge_residual.ensures, c.index_before-k.ensures)
+returns c = rw (c.residual_norm.ensures, c.weighted_edge_residual.ensures, c.saturating_sub-k.ensures)

@@ -14,20 +14,17 @@ use Rattle.printable.proofs.pose_graph_cost.Goals as goal
 pub loop-k-init : goal.loop-k-init
 loop-k-init c =
     let a = c.args in
-    (omega arith, omega arith, squares_none (lent_graph [] a.ends.now a.edges.now []) (pose_at a.poses.now))
+    squares_none (lent_graph [] a.ends.now a.edges.now []) (pose_at a.poses.now)
 
 pub loop-k-preserved : goal.loop-k-preserved
 loop-k-preserved c =
-    let a = c.args in (
-      omega arith,
-      omega arith,
-      rw (c.add_residual-sum.ensures, c.weighted_edge_residual.ensures)
-          (squares_more (lent_graph [] a.ends.now a.edges.now []) (pose_at a.poses.now) c.loop-k.k c.loop-k.invariant.2),
-    )
+    let a = c.args in
+    rw (c.add_residual-sum.ensures, c.weighted_edge_residual.ensures)
+    (squares_more (lent_graph [] a.ends.now a.edges.now []) (pose_at a.poses.now) c.loop-k.k c.loop-k.invariant)
 
 pub returns : goal.returns
 unfolding pose_graph_cost ratio of_bits
 returns c =
     let a = c.args in
     let e : c.loop-k.k ≡ length a.ends.now / 2 = omega arith in
-    ap (λ s. ratio 1 2 ⊗ s) (c.loop-k.invariant.2 ∙ ap (squares_up_to (lent_graph [] a.ends.now a.edges.now []) (pose_at a.poses.now)) e)
+    ap (λ s. ratio 1 2 ⊗ s) (c.loop-k.invariant ∙ ap (squares_up_to (lent_graph [] a.ends.now a.edges.now []) (pose_at a.poses.now)) e)

@@ -2,9 +2,9 @@
 use lib.Ieee.{of_bits, div}
 use Rattle.printable.proofs.residual_norm.Goals as goal
 
-pub returns-in-Six : goal.returns-in-Six
-returns-in-Six c = rw (c.sqrt64.ensures, c.residual_squared.ensures, c.in-Six.is)
+pub returns-in-Ok : goal.returns-in-Ok
+returns-in-Ok c = rw (c.sqrt64.ensures, c.residual_squared.ensures, c.in-Ok.is)
 
-pub returns-in-Failed : goal.returns-in-Failed
+pub returns-in-Err : goal.returns-in-Err
 unfolding of_bits div
-returns-in-Failed c = rw c.in-Failed.is
+returns-in-Err c = rw c.in-Err.is

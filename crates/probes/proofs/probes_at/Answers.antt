@@ -1,20 +1,13 @@
-use borrow.Author.Tests.{lt-ltb, le-ltb}
-use Rattle.numbers.specs.Notation.{if_then}
-use Rattle.probes.specs.Stances.{probes_se3, probes_gravity, probe_by, probes_by}
+use Rattle.std.specs.Prelude.{Result}
+use mathlib.Core.Path.{sym, ap, ◌∙◌}
+use Rattle.numbers.specs.declared.Failure.{Failure}
+use Rattle.probes.specs.declared.Stance.{Stance}
+use Rattle.probes.specs.Stances.{probe_by, probes_by}
 use Rattle.probes.proofs.probes_at.Goals as goal
 
-pub returns-in-Bad : goal.returns-in-Bad
+pub returns-in-Ok : goal.returns-in-Ok
+returns-in-Ok c = c.probes_of.ensures ∙ sym (ap (λ (s : Result Stance Failure). probes_by s c.args.c) c.in-Ok.is)
+
+pub returns-in-Err : goal.returns-in-Err
 unfolding probes_by probe_by
-returns-in-Bad c = rw c.in-Bad.is
-
-pub returns-in-Se3 : goal.returns-in-Se3
-unfolding probes_by probe_by probes_se3
-returns-in-Se3 c = rw (c.in-Se3.is, c.probes_se3.ensures)
-
-pub returns-then-c-ge3 : goal.returns-then-c-ge3
-unfolding probes_by probe_by probes_gravity if_then
-returns-then-c-ge3 c = rw (c.in-Gravity.is, c.probes_gravity.ensures, le-ltb _ _ c.if-c-ge3.true)
-
-pub returns-else-c-ge3 : goal.returns-else-c-ge3
-unfolding probes_by probe_by probes_gravity if_then
-returns-else-c-ge3 c = rw (c.in-Gravity.is, c.probes_gravity-else-c-ge3.ensures, lt-ltb _ _ c.if-c-ge3.false)
+returns-in-Err c = rw c.in-Err.is

@@ -1,29 +1,29 @@
+use Rattle.rotations.specs.Formats.{QuatF32, Quat}
+use Rattle.std.specs.Prelude.{Option}
 use mathlib.Core.Path.{◌≡◌, refl}
 use mathlib.Core.Bool.{Bool, true, false}
 use Prim.Native.Nat.{ℕ}
 use lib.Dec.{ltb}
 use Rattle.numbers.specs.Notation.{if_then}
-use Rattle.rotations.specs.declared.Quat.{Quat}
-use Rattle.probes.specs.declared.Swing.{Swing}
-use Rattle.probes.specs.declared.Swings.{Swings}
+use Rattle.exp_log.specs.declared.Both.{Both}
 use Rattle.probes.specs.Stances.{step_quat, swung_by, swings_by, swings_at, probe_se3, probes_se3}
 use Rattle.probes.proofs.probes_se3.Goals as goal
 
-ahead_of : (b : Bool) (x y : Swings) → (if_then b x y).ahead ≡ if_then b x.ahead y.ahead
+ahead_of : (b : Bool) (x y : Both (Option QuatF32)) → (if_then b x y).ahead ≡ if_then b x.ahead y.ahead
 unfolding if_then
 ahead_of true x y = refl
 ahead_of false x y = refl
 
-behind_of : (b : Bool) (x y : Swings) → (if_then b x y).behind ≡ if_then b x.behind y.behind
+behind_of : (b : Bool) (x y : Both (Option QuatF32)) → (if_then b x y).behind ≡ if_then b x.behind y.behind
 unfolding if_then
 behind_of true x y = refl
 behind_of false x y = refl
 
-ahead_is : (q : Quat) (shift : Swing) (c : ℕ) → (swings_at q shift c).ahead ≡ if_then (ltb c 3) shift (swung_by q (step_quat c true))
+ahead_is : (q : Quat) (shift : Option QuatF32) (c : ℕ) → (swings_at q shift c).ahead ≡ if_then (ltb c 3) shift (swung_by q (step_quat c true))
 unfolding swings_at swings_by
 ahead_is q shift c = ahead_of (ltb c 3) _ _
 
-behind_is : (q : Quat) (shift : Swing) (c : ℕ) → (swings_at q shift c).behind ≡ if_then (ltb c 3) shift (swung_by q (step_quat c false))
+behind_is : (q : Quat) (shift : Option QuatF32) (c : ℕ) → (swings_at q shift c).behind ≡ if_then (ltb c 3) shift (swung_by q (step_quat c false))
 unfolding swings_at swings_by
 behind_is q shift c = behind_of (ltb c 3) _ _
 

@@ -18,5 +18,5 @@ returns-in-Gravity c =
       c.scaled-in-Gravity.ensures,
       c.turn_of.ensures,
       c.scaled.ensures,
-      c.widen-eps.ensures,
+      c.from-eps.ensures,
     )

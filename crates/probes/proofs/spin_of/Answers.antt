@@ -10,5 +10,5 @@ returns-in_default c = not_turned _ c.in_default.is refl
 pub returns : goal.returns
 unfolding spin_of
 returns c =
-    turned_by_lem _ _ c.in-By.q c.in-By.is
+    turned_by_lem _ _ c.in-Some.q c.in-Some.is
     (rw (c.settled-swing.ensures, c.mat3_to_f32.ensures, c.mat_product-rotation.ensures, c.matrix_of.ensures))

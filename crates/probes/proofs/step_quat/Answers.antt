@@ -14,7 +14,7 @@ returns-then-c-lt3 c =
     let z-of : c.if-c-eq5.result ≡ if_then (eqb c.args.c 5) c.if-ahead.s (num 0) = (elim c.if-c-eq5.branch [ then-c-eq5 w ↦ taken _ (eq-eqb _ _ w.if-c-eq5.true) w.result-is | else-c-eq5 w ↦ left _ (ne_eqb _ _ w.if-c-eq5.false) w.result-is ]) in
     let y_of : c.if-c-eq4.result ≡ if_then (eqb c.args.c 4) c.if-ahead.s (num 0) = (elim c.if-c-eq4.branch [ then-c-eq4 w ↦ taken _ (eq-eqb _ _ w.if-c-eq4.true) w.result-is | else-c-eq4 w ↦ left _ (ne_eqb _ _ w.if-c-eq4.false) w.result-is ]) in
     let x-of : c.if-c-eq3.result ≡ if_then (eqb c.args.c 3) c.if-ahead.s (num 0) = (elim c.if-c-eq3.branch [ then-c-eq3 w ↦ taken _ (eq-eqb _ _ w.if-c-eq3.true) w.result-is | else-c-eq3 w ↦ left _ (ne_eqb _ _ w.if-c-eq3.false) w.result-is ]) in
-    let sided : c.if-ahead.s ≡ if_then c.args.ahead (ratio32 1 2000) (neg (ratio32 1 2000)) = (elim c.if-ahead.branch [ then-ahead w ↦ taken _ w.if-ahead.true (w.s-is ∙ w.widen-s.ensures) | else-ahead w ↦ left _ w.if-ahead.false (w.s-is ∙ w.widen-s-else-ahead.ensures) ]) in
+    let sided : c.if-ahead.s ≡ if_then c.args.ahead (ratio32 1 2000) (neg (ratio32 1 2000)) = (elim c.if-ahead.branch [ then-ahead w ↦ taken _ w.if-ahead.true (w.s-is ∙ w.from-s.ensures) | else-ahead w ↦ left _ w.if-ahead.false (w.s-is ∙ w.from-s-else-ahead.ensures) ]) in
     rw (z-of, y_of, x-of, sided, lt-ltb _ _ c.if-c-lt3.true)
 
 pub returns-then-c-lt6 : goal.returns-then-c-lt6
@@ -23,9 +23,9 @@ returns-then-c-lt6 c =
     let z-of : c.if-c-eq5.result ≡ if_then (eqb c.args.c 5) c.if-ahead.s (num 0) = (elim c.if-c-eq5.branch [ then-c-eq5 w ↦ taken _ (eq-eqb _ _ w.if-c-eq5.true) w.result-is | else-c-eq5 w ↦ left _ (ne_eqb _ _ w.if-c-eq5.false) w.result-is ]) in
     let y_of : c.if-c-eq4.result ≡ if_then (eqb c.args.c 4) c.if-ahead.s (num 0) = (elim c.if-c-eq4.branch [ then-c-eq4 w ↦ taken _ (eq-eqb _ _ w.if-c-eq4.true) w.result-is | else-c-eq4 w ↦ left _ (ne_eqb _ _ w.if-c-eq4.false) w.result-is ]) in
     let x-of : c.if-c-eq3.result ≡ if_then (eqb c.args.c 3) c.if-ahead.s (num 0) = (elim c.if-c-eq3.branch [ then-c-eq3 w ↦ taken _ (eq-eqb _ _ w.if-c-eq3.true) w.result-is | else-c-eq3 w ↦ left _ (ne_eqb _ _ w.if-c-eq3.false) w.result-is ]) in
-    let sided : c.if-ahead.s ≡ if_then c.args.ahead (ratio32 1 2000) (neg (ratio32 1 2000)) = (elim c.if-ahead.branch [ then-ahead w ↦ taken _ w.if-ahead.true (w.s-is ∙ w.widen-s.ensures) | else-ahead w ↦ left _ w.if-ahead.false (w.s-is ∙ w.widen-s-else-ahead.ensures) ]) in
+    let sided : c.if-ahead.s ≡ if_then c.args.ahead (ratio32 1 2000) (neg (ratio32 1 2000)) = (elim c.if-ahead.branch [ then-ahead w ↦ taken _ w.if-ahead.true (w.s-is ∙ w.from-s.ensures) | else-ahead w ↦ left _ w.if-ahead.false (w.s-is ∙ w.from-s-else-ahead.ensures) ]) in
     rw (
-      c.widen.ensures,
+      c.from.ensures,
       z-of,
       y_of,
       x-of,
@@ -40,7 +40,7 @@ returns-else-c-lt6 c =
     let z-of : c.if-c-eq5.result ≡ if_then (eqb c.args.c 5) c.if-ahead.s (num 0) = (elim c.if-c-eq5.branch [ then-c-eq5 w ↦ taken _ (eq-eqb _ _ w.if-c-eq5.true) w.result-is | else-c-eq5 w ↦ left _ (ne_eqb _ _ w.if-c-eq5.false) w.result-is ]) in
     let y_of : c.if-c-eq4.result ≡ if_then (eqb c.args.c 4) c.if-ahead.s (num 0) = (elim c.if-c-eq4.branch [ then-c-eq4 w ↦ taken _ (eq-eqb _ _ w.if-c-eq4.true) w.result-is | else-c-eq4 w ↦ left _ (ne_eqb _ _ w.if-c-eq4.false) w.result-is ]) in
     let x-of : c.if-c-eq3.result ≡ if_then (eqb c.args.c 3) c.if-ahead.s (num 0) = (elim c.if-c-eq3.branch [ then-c-eq3 w ↦ taken _ (eq-eqb _ _ w.if-c-eq3.true) w.result-is | else-c-eq3 w ↦ left _ (ne_eqb _ _ w.if-c-eq3.false) w.result-is ]) in
-    let sided : c.if-ahead.s ≡ if_then c.args.ahead (ratio32 1 2000) (neg (ratio32 1 2000)) = (elim c.if-ahead.branch [ then-ahead w ↦ taken _ w.if-ahead.true (w.s-is ∙ w.widen-s.ensures) | else-ahead w ↦ left _ w.if-ahead.false (w.s-is ∙ w.widen-s-else-ahead.ensures) ]) in
+    let sided : c.if-ahead.s ≡ if_then c.args.ahead (ratio32 1 2000) (neg (ratio32 1 2000)) = (elim c.if-ahead.branch [ then-ahead w ↦ taken _ w.if-ahead.true (w.s-is ∙ w.from-s.ensures) | else-ahead w ↦ left _ w.if-ahead.false (w.s-is ∙ w.from-s-else-ahead.ensures) ]) in
     rw (
       z-of,
       y_of,

@@ -1,10 +1,14 @@
-use mathlib.Core.Path.{◌≡◌, refl, sym, ◌∙◌}
-use Prim.Native.Nat.{◌+◌, ◌*◌, ◌≤◌}
+use mathlib.Core.Path.{◌≡◌, refl, ◌∙◌}
+use Prim.Native.Nat.{ℕ, ◌+◌, ◌*◌, ◌≤◌}
 use native.Mathlib.Omega.{arith}
-use borrow.Author.Tests.{not-true, not-false, lt-ltb, le-ltb}
+use borrow.Author.Rules.{rules}
+use borrow.Author.Tests.{tests, lt-ltb, le-ltb}
+use Rattle.std.proofs.lemmas.Iterator.{first_from_Range, serves_from_Range}
 use Rattle.numbers.proofs.Choices.{taken, left}
-use Rattle.profile.specs.Starts.{start_of}
-use Rattle.profile.proofs.Leading.{leading_none, leading_more, leading_stop}
+use mathlib.Core.Bool.{Bool, true, false}
+use Rattle.profile.specs.Starts.{start_of, plus_zero}
+use Rattle.profile.specs.Layout.{hessian_of}
+use Rattle.profile.proofs.Leading.{leading_found}
 use Rattle.profile.proofs.Index.{before}
 use Rattle.profile.proofs.first_in.Goals as goal
 
@@ -12,38 +16,20 @@ pub returns-then-n-i : goal.returns-then-n-i
 unfolding start_of
 returns-then-n-i c = left _ (le-ltb _ _ c.if-n-i.true) refl
 
-pub loop-j-init : goal.loop-j-init
-loop-j-init c = (omega arith, leading_none _)
-
-pub overflow_mul-j : goal.overflow_mul-j
-overflow_mul-j c =
-    let own : c.loop-j.j * c.args.n + c.args.n ≤ c.args.n * c.args.n = before c.args.n c.loop-j.j c.args.n (omega arith) in
-    omega (arith, own)
-
-pub overflow_add-j : goal.overflow_add-j
-overflow_add-j c =
-    let own : c.loop-j.j * c.args.n + c.args.n ≤ c.args.n * c.args.n = before c.args.n c.loop-j.j c.args.n (omega arith) in
-    omega (arith, own)
-
-pub offset_bounds-w-j : goal.offset_bounds-w-j
-offset_bounds-w-j c =
-    let own : c.loop-j.j * c.args.n + c.args.n ≤ c.args.n * c.args.n = before c.args.n c.loop-j.j c.args.n (omega arith) in
-    omega (arith, own)
-
-pub bounds-w-j : goal.bounds-w-j
-bounds-w-j c =
-    let own : c.loop-j.j * c.args.n + c.args.n ≤ c.args.n * c.args.n = before c.args.n c.loop-j.j c.args.n (omega arith) in
-    omega (arith, own)
-
-pub returns-then-not-plus_zero : goal.returns-then-not-plus_zero
-unfolding start_of
-returns-then-not-plus_zero c = taken _ (lt-ltb _ _ c.if-n-i.false) (sym (leading_stop _ c.loop-j.j c.args.i (omega arith) c.loop-j.invariant.1 (sym c.plus_zero.ensures ∙ not-true _ c.if-not-plus_zero.true-raw)))
-
-pub loop-j-preserved : goal.loop-j-preserved
-loop-j-preserved c = (omega arith, leading_more _ c.loop-j.j c.loop-j.invariant.1 (sym c.plus_zero.ensures ∙ not-false _ c.if-not-plus_zero.false-raw))
+pub find-requires-clause-callable : goal.find-requires-clause-callable
+find-requires-clause-callable c =
+    serves_from_Range (λ x q k. search rules)
+    (λ x low high y e.
+    let own : y.now * c.args.n + c.args.n ≤ c.args.n * c.args.n = before c.args.n y.now c.args.n (omega (arith, e)) in
+    search (rules, own))
 
 pub returns : goal.returns
 unfolding start_of
 returns c =
-    let e : c.loop-j.j ≡ c.args.i = omega arith in
-    taken _ (lt-ltb _ _ c.if-n-i.false) (sym (rw e at c.loop-j.invariant.1))
+    let a = c.args in
+    let t : ℕ → Bool = λ j. plus_zero (hessian_of a.w.now a.n a.i j) in
+    taken _ (lt-ltb _ _ c.if-n-i.false)
+    (c.unwrap_or.ensures ∙ leading_found t a.i c.find.result
+    (first_from_Range _ _ _ _ (λ j. t j ≡ false) (λ j. t j ≡ true) c.find.ensures.ran
+    (λ x q k. search (rules, tests))
+    (λ x q k. search (rules, tests))))

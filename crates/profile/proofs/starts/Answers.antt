@@ -29,16 +29,16 @@ more f i x s l h e =
     (get_or-set_same f i x 0 l ∙ e)
 
 pub loop-i-init : goal.loop-i-init
-loop-i-init c = (omega arith, length-replicate {A = ℕ} 384 0, λ q l. absurd (omega arith))
+loop-i-init c = (length-replicate {A = ℕ} 384 0, λ q l. absurd (omega arith))
 
 pub first_in-requires : goal.first_in-requires
 first_in-requires c = rw c.order_for-m.ensures (within _ _)
 
 pub loop-i-preserved : goal.loop-i-preserved
-loop-i-preserved c = (omega arith, simp length-set c.loop-i.invariant.1, more c.loop-i.f c.loop-i.i c.first_in.result _ (omega arith) c.loop-i.invariant.2 c.first_in.ensures)
+loop-i-preserved c = (simp length-set c.loop-i.invariant.0, more c.loop-i.f c.loop-i.i c.first_in.result _ (omega arith) c.loop-i.invariant.1 c.first_in.ensures)
 
 pub returns : goal.returns
 returns c =
     let w = c.args.w.now in
     let e : c.loop-i.i ≡ 384 = omega arith in
-    is_table 0 c.loop-i.f (start_of w c.order_for-m.result) 384 c.loop-i.invariant.1 (rw e at c.loop-i.invariant.2) ∙ rw c.order_for-m.ensures
+    is_table 0 c.loop-i.f (start_of w c.order_for-m.result) 384 c.loop-i.invariant.0 (rw e at c.loop-i.invariant.1) ∙ rw c.order_for-m.ensures

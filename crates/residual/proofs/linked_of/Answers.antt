@@ -1,22 +1,22 @@
+use mathlib.Core.Path.{◌∙◌}
+use Rattle.numbers.proofs.Question.{handed_on}
 use Rattle.residual.proofs.Linking.{no_measured, no_b, no_a, all_parts}
 use Rattle.residual.proofs.linked_of.Goals as goal
 
-pub returns-in-Bad : goal.returns-in-Bad
-returns-in-Bad c = no_measured _ _ _ c.undone_of.ensures c.in-Bad.is
+pub returns-in_err-undone : goal.returns-in_err-undone
+returns-in_err-undone c = handed_on _ c.from_residual.ensures.1 ∙ no_measured _ _ _ c.undone_of.ensures c.in_err-undone.was
 
-pub returns-in-Bad-b : goal.returns-in-Bad-b
-returns-in-Bad-b c =
-    no_b _ _ _ c.undone_of.ensures c.in-Into.is
-    c.in-Bad-b.is
+pub returns-in_err-to : goal.returns-in_err-to
+returns-in_err-to c = handed_on _ c.from_residual-in_err-to.ensures.1 ∙ no_b _ _ _ c.undone_of.ensures c.in_ok-undone.was c.in_err-to.was
 
-pub returns-in-Bad-a : goal.returns-in-Bad-a
-returns-in-Bad-a c =
-    no_a _ _ _ c.undone_of.ensures c.in-Into.is c.in-Into-b.is
-    c.in-Bad-a.is
+pub returns-in_err-from : goal.returns-in_err-from
+returns-in_err-from c =
+    handed_on _ c.from_residual-in_err-from.ensures.1
+    ∙ no_a _ _ _ c.undone_of.ensures c.in_ok-undone.was c.in_ok-to.was c.in_err-from.was
 
 pub returns : goal.returns
 returns c =
-    all_parts _ _ _ c.undone_of.ensures c.in-Into.is c.in-Into-b.is c.in-Into-a.is
+    all_parts _ _ _ c.undone_of.ensures c.in_ok-undone.was c.in_ok-to.was c.in_ok-from.was
     (rw (
       c.tie.ensures,
       c.matrix_of-2.ensures,

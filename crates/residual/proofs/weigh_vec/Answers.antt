@@ -2,8 +2,7 @@ use mathlib.Core.Path.{◌≡◌}
 use lib.Ieee.{Float}
 use Rattle.numbers.specs.Notation.{◌⊠◌}
 use Rattle.rounding.specs.Rounding.{narrowed}
-use Rattle.rotations.specs.declared.Vec3.{Vec3}
-use Rattle.rotations.specs.declared.Vec3F32.{Vec3F32}
+use Rattle.rotations.specs.Formats.{Vec3, Vec3F32}
 use Rattle.residual.specs.Residuals.{weighted_vec}
 use Rattle.residual.proofs.weigh_vec.Goals as goal
 

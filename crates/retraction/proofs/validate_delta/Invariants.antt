@@ -1,4 +1,3 @@
-use Prim.Native.Nat.{◌≤◌, ◌-◌}
 use mathlib.Core.Path.{◌≡◌}
 use lib.Ieee.Scale.{finite}
 use Rattle.numbers.specs.Notation.{number_at}
@@ -6,7 +5,4 @@ use Rattle.numbers.specs.Walks.{every}
 use Rattle.retraction.proofs.validate_delta.Given as goal
 
 abbrev pub invariant-loop-j : goal.invariant-loop-j
-invariant-loop-j l = (l.j ≤ l.n) × (l.good ≡ every (λ i. finite (number_at l.delta i)) l.j)
-
-abbrev pub decreases-loop-j : goal.decreases-loop-j
-decreases-loop-j l = l.n - l.j
+invariant-loop-j l = l.good ≡ every (λ i. finite (number_at l.delta i)) l.j

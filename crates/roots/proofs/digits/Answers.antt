@@ -42,7 +42,6 @@ loop-d-preserved c =
       c.digit-r.ensures.1,
       omega (arith, doubled d, c.digit-r.ensures.2, c.loop-d.invariant.2),
       omega (arith, next_left l),
-      omega arith,
     )
 
 last : (a l m : ℕ) → a * 2 ^ 54 + l ≡ m * 2 ^ 54 → l < 2 ^ 54 → a ≡ m

@@ -1,60 +1,40 @@
-use Rattle.std.proofs.Common.{◌≡◌, ℕ, ◌+◌, ◌-◌, ◌*◌, ◌%◌, ◌^◌, ◌<◌, ◌≤◌, sym, ap, ◌∙◌, le_trans, le_of_eq, mul-le-mul_right, mul_assoc, one-mul, lt_of_not-le, mul-one, not-le_of_lt, arith, pow_mono, pow-add}
-use Rattle.numbers.proofs.Word.{one_shl}
+-- `roots::lifted` meets its contract: a t of l + 1 digits, shifted by w - l, has w + 1. Assumes nothing.
+use Rattle.std.proofs.Common.{◌≡◌, ℕ, ◌+◌, ◌-◌, ◌*◌, ◌%◌, ◌^◌, ◌<◌, ◌≤◌, refl, sym, ap, ◌∙◌, mul_assoc, lt_of_not-le, not-le_of_lt, le_trans, mul-le-mul_right, mul-lt-mul_of_pos_right, arith, pow_mono, pow_pos, pow-add}
 use Rattle.roots.proofs.lifted.Goals as goal
 
--- where q is below 2 ^ w, i is below w
-not_yet : (t q i w : ℕ) → 0 < t → q ≡ t * 2 ^ i → q < 2 ^ w → i < w
-not_yet t q i w T e h =
-    lt_of_not-le (λ (g : w ≤ i). not-le_of_lt h (le_trans (pow_mono g) (le_trans (le_of_eq (sym (one-mul (2 ^ i)))) (le_trans (mul-le-mul_right (2 ^ i) T) (le_of_eq (sym e))))))
+module _ (t w l : ℕ) (least : 2 ^ l ≤ t) (most : t < 2 * 2 ^ w) where
+  short : l ≤ w
+  short =
+      let n : l < w + 1 = lt_of_not-le (λ (g : w + 1 ≤ l). not-le_of_lt most (le_trans (omega (arith, pow-add 2 w 1)) (le_trans (pow_mono g) least))) in
+      omega arith
 
-small : (w : ℕ) → w ≤ 52 → 2 ^ w ≤ 2 ^ 52
-small w h = pow_mono h
+  powers : (a b c : ℕ) → a + b ≡ c → 2 ^ a * 2 ^ b ≡ 2 ^ c
+  powers a b c e = sym (pow-add 2 a b) ∙ ap (λ (x : ℕ). 2 ^ x) e
 
-pub loop-q-init : goal.loop-q-init
-loop-q-init c = (sym (mul-one c.args.t), omega arith, c.requires.1)
+  shifted : (a : ℕ) → t < 2 * 2 ^ l → w ≤ 52 → w ≤ a → (q : ℕ) → q ≡ t * 2 ^ (w - l) % 2 ^ 64
+      → (q * 2 ^ (a - (w - l)) ≡ t * 2 ^ a) × (2 ^ w ≤ q) × (q < 2 * 2 ^ w)
+  shifted a next W A q is =
+      let s = w - l in
+      let L = short in
+      let p : 2 ^ l * 2 ^ s ≡ 2 ^ w = powers l s w (omega arith) in
+      let low : 2 ^ l * 2 ^ s ≤ t * 2 ^ s = mul-le-mul_right (2 ^ s) least in
+      let high : t * 2 ^ s < 2 * 2 ^ l * 2 ^ s = mul-lt-mul_of_pos_right next (pow_pos s) in
+      let high' : t * 2 ^ s < 2 * 2 ^ w = rw (mul_assoc 2 (2 ^ l) (2 ^ s), p) at high in
+      let m : 2 ^ w ≤ 2 ^ 52 = pow_mono W in
+      let e : q ≡ t * 2 ^ s = omega (arith, is, high', m) in (
+        ap (λ (x : ℕ). x * 2 ^ (a - s)) e ∙ mul_assoc t (2 ^ s) (2 ^ (a - s)) ∙ ap (λ (x : ℕ). t * x) (powers s (a - s) a (omega arith)),
+        omega (arith, low, p, e),
+        omega (arith, high', e),
+      )
 
-pub overflow_add-i : goal.overflow_add-i
-overflow_add-i c =
-    let least-is : 1 * 2 ^ c.args.w % 2 ^ 64 ≡ 2 ^ c.args.w = one_shl c.args.w (omega arith) in
-    let turn : c.loop-q.i < c.args.w = not_yet c.args.t c.loop-q.q c.loop-q.i c.args.w c.requires.0 c.loop-q.invariant.0 (omega (arith, least-is, c.loop-q-test.true)) in
-    omega (arith, turn)
-
-pub loop-q-smaller : goal.loop-q-smaller
-loop-q-smaller c =
-    let least-is : 1 * 2 ^ c.args.w % 2 ^ 64 ≡ 2 ^ c.args.w = one_shl c.args.w (omega arith) in
-    let turn : c.loop-q.i < c.args.w = not_yet c.args.t c.loop-q.q c.loop-q.i c.args.w c.requires.0 c.loop-q.invariant.0 (omega (arith, least-is, c.loop-q-test.true)) in
-    omega (arith, turn)
-
-doubled : (t q i y : ℕ) → q ≡ t * 2 ^ i → y ≡ q * 2 → y ≡ t * 2 ^ (i + 1)
-doubled t q i y e d = d ∙ ap (λ (x : ℕ). x * 2) e ∙ mul_assoc t (2 ^ i) 2 ∙ ap (λ (x : ℕ). t * x) (sym (pow-add 2 i 1))
-
-twice : (q : ℕ) → q < 2 ^ 52 → q * 2 % 2 ^ 64 ≡ q * 2
-twice q h = omega arith
-
-pub loop-q-preserved : goal.loop-q-preserved
-loop-q-preserved c =
-    let least-is : 1 * 2 ^ c.args.w % 2 ^ 64 ≡ 2 ^ c.args.w = one_shl c.args.w (omega arith) in
-    let turn : c.loop-q.i < c.args.w = not_yet c.args.t c.loop-q.q c.loop-q.i c.args.w c.requires.0 c.loop-q.invariant.0 (omega (arith, least-is, c.loop-q-test.true)) in
-    let q = c.loop-q.q in
-    let l : q < 2 ^ c.args.w = omega (arith, least-is, c.loop-q-test.true) in
-    let e = twice q (omega (arith, l, small c.args.w c.requires.2)) in (
-      doubled c.args.t q c.loop-q.i (q * 2 % 2 ^ 64) c.loop-q.invariant.0 e,
-      omega (arith, turn),
-      omega (arith, e, l),
-    )
-
-moved : (t q i a : ℕ) → q ≡ t * 2 ^ i → i ≤ a → q * 2 ^ (a - i) ≡ t * 2 ^ a
-moved t q i a e h =
-    ap (λ (x : ℕ). x * 2 ^ (a - i)) e ∙ mul_assoc t (2 ^ i) (2 ^ (a - i)) ∙ ap (λ (x : ℕ). t * x) (sym (pow-add 2 i (a - i)) ∙ ap (λ (x : ℕ). 2 ^ x) (omega arith))
+pub overflow_sub-shift : goal.overflow_sub-shift
+overflow_sub-shift c = rw c.from.ensures (short c.args.t c.args.w c.ilog2.result c.ilog2.ensures.power_le c.requires.1)
 
 pub returns : goal.returns
 returns c =
-    let least-is : 1 * 2 ^ c.args.w % 2 ^ 64 ≡ 2 ^ c.args.w = one_shl c.args.w (omega arith) in
-    let q = c.loop-q.q in
-    let i = c.loop-q.i in (
-      moved c.args.t q i c.args.a c.loop-q.invariant.0 (omega arith),
-      omega (arith, least-is, c.loop-q-test.false),
-      c.loop-q.invariant.2,
-      omega arith,
-      omega arith,
-    )
+    let a = c.args in
+    let i = c.ilog2 in
+    let l : c.from.result ≤ a.w = overflow_sub-shift c in
+    let k = shifted a.t a.w i.result i.ensures.power_le c.requires.1 a.a i.ensures.next_power_gt c.requires.2 c.requires.3
+    (a.t * 2 ^ (a.w - i.result) % 2 ^ 64) refl in
+    (rw c.from.ensures k.0, rw c.from.ensures k.1, rw c.from.ensures k.2, omega arith, omega (arith, l))

@@ -5,11 +5,11 @@ pub returns : goal.returns
 unfolding wide
 returns c =
     rw (
-      c.widen-7.ensures,
-      c.widen-6.ensures,
-      c.widen-5.ensures,
-      c.widen-4.ensures,
-      c.widen-3.ensures,
-      c.widen-2.ensures,
-      c.widen.ensures,
+      c.from-7.ensures,
+      c.from-6.ensures,
+      c.from-5.ensures,
+      c.from-4.ensures,
+      c.from-3.ensures,
+      c.from-2.ensures,
+      c.from.ensures,
     )

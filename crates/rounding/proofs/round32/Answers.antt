@@ -60,4 +60,4 @@ returns-then-wrapping_sub_u64-lt-IN_PLACE c =
     ∙ ap (rounded binary32) (sym (by_fields binary64 x (held)))
 
 pub returns : goal.returns
-returns c = c.widen.ensures ∙ c.narrow.ensures
+returns c = c.from.ensures ∙ c.narrow.ensures

@@ -1,4 +1,7 @@
+use Rattle.std.proofs.Common.{arith}
+use Rattle.std.proofs.lemmas.Grind.{common_steps}
 use lib.Ieee.{of_bits}
+use Rattle.numbers.proofs.Finite.{same_finite}
 use Rattle.numbers.specs.Notation.{ratio}
 use Rattle.rows.specs.Tests.{bad_gravity}
 use Rattle.rows.proofs.bad_gravity.Goals as goal
@@ -7,14 +10,10 @@ pub returns-in_default : goal.returns-in_default
 unfolding bad_gravity
 returns-in_default c = rw c.in_default.is
 
-pub returns : goal.returns
+pub returns-then-not-is_finite : goal.returns-then-not-is_finite
 unfolding bad_gravity ratio of_bits
-returns c =
-    rw (
-      c.is_finite64-4.ensures,
-      c.is_finite64-3.ensures,
-      c.is_finite64-2.ensures,
-      c.is_finite64.ensures,
-      c.length_of-length.ensures,
-      c.in-Gravity.is,
-    )
+returns-then-not-is_finite c = rw c.in-Gravity.is (grind (arith, common_steps, same_finite))
+
+pub returns-else-not-is_finite : goal.returns-else-not-is_finite
+unfolding bad_gravity ratio of_bits
+returns-else-not-is_finite c = rw c.in-Gravity.is (grind (arith, common_steps, same_finite))

@@ -1,4 +1,4 @@
 use Rattle.rows.proofs.row_16.Goals as goal
 
 pub returns : goal.returns
-returns c = c.asked.ensures
+returns c = c.ask.ensures

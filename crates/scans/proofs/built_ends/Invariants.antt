@@ -1,11 +1,7 @@
 -- `scans::built_ends` meets its contract: after k turns the array holds the ends of the first k edges, and zeros. Assumes nothing.
-use Prim.Native.Nat.{◌≤◌, ◌-◌}
 use Rattle.scans.specs.Scans.{scan_ends}
 use Rattle.scans.proofs.Strings.{Filled}
 use Rattle.scans.proofs.built_ends.Given as goal
 
 abbrev pub invariant-loop-k : goal.invariant-loop-k
-invariant-loop-k l = (l.k ≤ l.most) × (l.most ≤ 1025) × Filled (scan_ends l.ids l.loops) 2 2050 0 l.ends l.k
-
-abbrev pub decreases-loop-k : goal.decreases-loop-k
-decreases-loop-k l = l.most - l.k
+invariant-loop-k l = Filled (scan_ends l.ids l.loops) 2 2050 0 l.ends l.k

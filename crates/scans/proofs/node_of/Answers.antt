@@ -1,19 +1,13 @@
 use native.Mathlib.Omega.{arith}
-use borrow.Author.Rules.{rules}
+use mathlib.Core.Path.{refl}
 use Rattle.scans.proofs.Nodes.{below_hit, below_less, below_none}
 use Rattle.scans.proofs.node_of.Goals as goal
 
-pub returns-then-index_at-id : goal.returns-then-index_at-id
-returns-then-index_at-id c =
-    let a = c.args in
-    below_hit a.ids.now a.id c.loop-n.n (omega arith) c.loop-n.invariant.1 c.index_at.ensures c.if-index_at-id.true
+pub returns-then-ids-k : goal.returns-then-ids-k
+returns-then-ids-k c = below_hit c.args.ids.now c.args.id c.loop-k.k (omega arith) c.loop-k.invariant refl c.if-ids-k.true
 
-pub loop-n-preserved : goal.loop-n-preserved
-loop-n-preserved c =
-    let a = c.args in
-    (search rules, below_less a.ids.now a.id c.loop-n.n (omega arith) c.loop-n.invariant.1 c.index_at.ensures c.if-index_at-id.false)
+pub loop-k-preserved : goal.loop-k-preserved
+loop-k-preserved c = below_less c.args.ids.now c.args.id c.loop-k.k (omega arith) c.loop-k.invariant refl c.if-ids-k.false
 
 pub returns : goal.returns
-returns c =
-    let a = c.args in
-    below_none a.ids.now a.id c.loop-n.n c.loop-n.invariant.1 (omega arith)
+returns c = below_none c.args.ids.now c.args.id c.loop-k.k c.loop-k.invariant (omega arith)

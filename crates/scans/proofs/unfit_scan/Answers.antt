@@ -1,15 +1,14 @@
--- `scans::unfit_scan` meets its contract: by one law of `Fits` for each return. Assumes nothing.
-use Rattle.scans.proofs.Fits.{few_keyframes, unfit_poses_lem, unfit_loops, unfit_rest}
+-- `scans::unfit_scan` meets its contract: a product told by a quotient and a rest. Assumes nothing.
+use Rattle.std.proofs.Common.{arith}
+use Rattle.std.proofs.lemmas.Grind.{common_steps}
+use Rattle.scans.specs.ScanRows.{unfit_scan}
+use Rattle.scans.proofs.Fits.{by_twelve, by_six}
 use Rattle.scans.proofs.unfit_scan.Goals as goal
 
-pub returns-then-ids-lt2 : goal.returns-then-ids-lt2
-returns-then-ids-lt2 c = few_keyframes _ _ _ _ _ c.if-ids-lt2.true
+pub returns-then-unfit_loops : goal.returns-then-unfit_loops
+unfolding unfit_scan
+returns-then-unfit_loops c = grind (arith, common_steps, by_twelve c.args.poses c.args.ids, by_six c.args.loop_poses c.args.loops)
 
-pub returns-then-poses-ids : goal.returns-then-poses-ids
-returns-then-poses-ids c = unfit_poses_lem _ _ _ _ _ c.if-ids-lt2.false c.if-poses-ids.true
-
-pub returns-then-loops-loop_poses : goal.returns-then-loops-loop_poses
-returns-then-loops-loop_poses c = unfit_loops _ _ _ _ _ c.if-ids-lt2.false c.if-poses-ids.false c.if-loops-loop_poses.true
-
-pub returns : goal.returns
-returns c = unfit_rest _ _ _ _ _ c.if-ids-lt2.false c.if-poses-ids.false c.if-loops-loop_poses.false
+pub returns-else-unfit_loops : goal.returns-else-unfit_loops
+unfolding unfit_scan
+returns-else-unfit_loops c = grind (arith, common_steps, by_twelve c.args.poses c.args.ids, by_six c.args.loop_poses c.args.loops)

@@ -1,10 +1,7 @@
 -- `solve::clear` meets its contract: the part that is cleared, put back. Assumes nothing.
-use mathlib.Core.Path.{◌∙◌}
-use Rattle.slices.proofs.Laws.{cleared_within}
-use Rattle.solve.proofs.Places.{cleared_whole}
+use Rattle.profile.proofs.Zeros.{literal_zero}
+use Rattle.solve.proofs.Parts.{part_cleared}
 use Rattle.solve.proofs.clear.Goals as goal
 
 pub returns : goal.returns
-returns c =
-    cleared_within c.args.p c.args.m c.args.w.now c.requires c.clear32.ensures
-    ∙ cleared_whole c.args.w.now c.args.p c.args.m c.requires
+returns c = part_cleared c.args.p c.args.m c.args.w.now c.requires (rw literal_zero at (c.fill.ensures.after (λ y e. e)))

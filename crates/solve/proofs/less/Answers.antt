@@ -20,15 +20,15 @@ turn w v s p q a k h e =
 
 pub loop-k-init : goal.loop-k-init
 unfolding less
-loop-k-init c = let a = c.args.a in let z : a - a ≡ 0 = omega arith in (omega arith, omega arith, rw z)
+loop-k-init c = let a = c.args.a in let z : a - a ≡ 0 = omega arith in (omega arith, rw z)
 
 pub loop-k-preserved : goal.loop-k-preserved
 loop-k-preserved c =
     let a = c.args in
-    (omega arith, omega arith, turn a.w.now a.v c.loop-k.s a.p a.q a.a c.loop-k.k c.loop-k.invariant.0 c.loop-k.invariant.2)
+    (omega arith, turn a.w.now a.v c.loop-k.s a.p a.q a.a c.loop-k.k (omega arith) c.loop-k.invariant.1)
 
 pub returns : goal.returns
 returns c =
     let a = c.args in
     let e : c.loop-k.k - a.a ≡ a.m - a.a = omega arith in
-    c.loop-k.invariant.2 ∙ ap (less_at a.w.now a.v (a.p + a.a) (a.q + a.a)) e
+    c.loop-k.invariant.1 ∙ ap (less_at a.w.now a.v (a.p + a.a) (a.q + a.a)) e

@@ -4,7 +4,4 @@ use Rattle.solve.specs.forms.Profile.{less_at}
 use Rattle.solve.proofs.less.Given as goal
 
 abbrev pub invariant-loop-k : goal.invariant-loop-k
-invariant-loop-k l = (l.a ≤ l.k) × (l.k - l.a ≤ l.m - l.a) × (l.s ≡ less_at l.w l.v (l.p + l.a) (l.q + l.a) (l.k - l.a))
-
-abbrev pub decreases-loop-k : goal.decreases-loop-k
-decreases-loop-k l = l.m - l.k
+invariant-loop-k l = (l.k - l.a ≤ l.m - l.a) × (l.s ≡ less_at l.w l.v (l.p + l.a) (l.q + l.a) (l.k - l.a))

@@ -1,7 +1,8 @@
+use Rattle.numbers.proofs.Question.{handed_on}
 use Rattle.sparse_pgo.proofs.answer_of.Goals as goal
 
-pub returns-in-Refused : goal.returns-in-Refused
-returns-in-Refused c = rw c.in-Refused.is
+pub returns-in_err-why : goal.returns-in_err-why
+returns-in_err-why c = rw c.in_err-why.was (handed_on _ c.from_residual.ensures.1)
 
-pub returns-in-Stopped : goal.returns-in-Stopped
-returns-in-Stopped c = rw (c.in-Stopped.is, c.has_converged.ensures)
+pub returns : goal.returns
+returns c = rw (c.in_ok-why.was, c.has_converged.ensures)

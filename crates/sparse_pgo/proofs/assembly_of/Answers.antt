@@ -1,3 +1,5 @@
+use Rattle.std.specs.Prelude.{Err}
+use mathlib.Core.Path.{ap, ◌∙◌}
 use Rattle.sparse_pgo.proofs.Sizes.{gradient_before, gradient_bytes, gradient_fits, rows_fit, step_fits, step_within}
 use Rattle.sparse_pgo.proofs.Assembling.{assembly_bad, assembly_short, assembly_flat, assembly_steep}
 use Rattle.sparse_pgo.proofs.assembly_of.Goals as goal
@@ -23,14 +25,14 @@ slice_bounds-l2_norm-start c = gradient_before _
 pub slice_bounds-l2_norm-end : goal.slice_bounds-l2_norm-end
 slice_bounds-l2_norm-end c = step_within _ _ c.requires.1
 
-pub returns-in-Bad : goal.returns-in-Bad
-returns-in-Bad c = assembly_bad c.args.setup c.args.w32.now c.in-Bad.is
+pub returns-in-BadEdge : goal.returns-in-BadEdge
+returns-in-BadEdge c = assembly_bad c.args.setup c.args.w32.now (c.in-Err.is ∙ ap Err c.in-BadEdge.is)
 
 pub returns-in-Short : goal.returns-in-Short
-returns-in-Short c = assembly_short c.args.setup c.args.w32.now c.in-Short.is
+returns-in-Short c = assembly_short c.args.setup c.args.w32.now (c.in-Err.is ∙ ap Err c.in-Short.is)
 
-pub returns-then-norm-widen : goal.returns-then-norm-widen
-returns-then-norm-widen c = assembly_flat c.args.setup c.args.w32.now c.requires.1 c.in-Done.is c.l2_norm-norm.ensures c.widen.ensures c.if-norm-widen.true
+pub returns-then-norm-from : goal.returns-then-norm-from
+returns-then-norm-from c = assembly_flat c.args.setup c.args.w32.now c.requires.1 c.in-Ok.is c.l2_norm-norm.ensures c.from.ensures c.if-norm-from.true
 
-pub returns-else-norm-widen : goal.returns-else-norm-widen
-returns-else-norm-widen c = assembly_steep c.args.setup c.args.w32.now c.requires.1 c.in-Done.is c.l2_norm-norm.ensures c.widen.ensures c.if-norm-widen.false
+pub returns-else-norm-from : goal.returns-else-norm-from
+returns-else-norm-from c = assembly_steep c.args.setup c.args.w32.now c.requires.1 c.in-Ok.is c.l2_norm-norm.ensures c.from.ensures c.if-norm-from.false

@@ -8,7 +8,7 @@ use Rattle.sparse_pgo.proofs.attempt.Goals as goal
 pub returns-in_default : goal.returns-in_default
 returns-in_default c =
     let p = c.requires in
-    attempt_failed _ p.lent p.holds c.solve_damped.ensures c.in_default.not-Step (c.solve_damped.auto.w ∙ p.lent.single)
+    attempt_failed _ p.lent p.holds c.solve_damped.ensures (c.in_default.not-Ok tt) (c.solve_damped.auto.w ∙ p.lent.single)
 
 pub overflow_mul-at : goal.overflow_mul-at
 overflow_mul-at c = rows_fit c.requires.lent.sized
@@ -34,4 +34,4 @@ slice_bounds-try_step-end c = le_refl _
 pub returns : goal.returns
 returns c =
     let p = c.requires in
-    attempt_tried _ p.lent p.holds c.solve_damped.ensures c.in-Step.is (c.solve_damped.auto.w ∙ p.lent.single) (slot_below _ _) (c.try_step.ensures.value, c.try_step.ensures.w_value)
+    attempt_tried _ p.lent p.holds c.solve_damped.ensures c.in-Ok.is (c.solve_damped.auto.w ∙ p.lent.single) (slot_below _ _) (c.try_step.ensures.value, c.try_step.ensures.w_value)

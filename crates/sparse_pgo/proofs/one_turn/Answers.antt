@@ -21,12 +21,12 @@ pub attempt-o-requires : goal.attempt-o-requires
 attempt-o-requires c =
     let l = c.requires.lent.0 in
     let t = c.pass_top.ensures in
-    record { lent = record { sized = l.sized; single = t.long; double = l.double }; holds = t.holds c.in-Go.is }
+    record { lent = record { sized = l.sized; single = t.long; double = l.double }; holds = t.holds c.in-None.is }
 
-pub returns-in-Stop : goal.returns-in-Stop
-returns-in-Stop c = turn_stop c.args.w64.now c.pass_top.ensures c.in-Stop.is
+pub returns-in-Some : goal.returns-in-Some
+returns-in-Some c = turn_stop c.args.w64.now c.pass_top.ensures c.in-Some.is
 
-pub returns-in-Go : goal.returns-in-Go
-returns-in-Go c =
+pub returns-in-None : goal.returns-in-None
+returns-in-None c =
     let decided : let a = c.args in c.after_solve.result ≡ solved a.s a.setup.settings.limit a.setup.settings.cost_tolerance c.attempt-o.result = c.after_solve.ensures in
-    turn_go c.args.w64.now c.pass_top.ensures c.requires.lent.1 c.in-Go.is c.attempt-o.ensures (decided)
+    turn_go c.args.w64.now c.pass_top.ensures c.requires.lent.1 c.in-None.is c.attempt-o.ensures (decided)

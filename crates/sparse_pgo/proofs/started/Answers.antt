@@ -38,8 +38,8 @@ overflow_add-t c =
 
 pub returns-in-Over : goal.returns-in-Over
 returns-in-Over c =
-    start_goes _ _ c.args.w64.now c.active_total_squared_residual_cost-found.ensures c.in-Of.is
+    start_goes _ _ c.args.w64.now c.active_total_squared_residual_cost-found.ensures c.in-Ok.is
     (turning_over c.loop-t.invariant c.one_turn.ensures c.in-Over.is) c.answer_of.ensures
 
 pub returns : goal.returns
-returns c = start_bad _ _ _ c.active_total_squared_residual_cost-found.ensures c.in-Bad.is
+returns c = start_bad _ _ _ c.active_total_squared_residual_cost-found.ensures c.in-Err.is

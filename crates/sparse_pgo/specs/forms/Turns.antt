@@ -1,7 +1,12 @@
 -- What the private functions of the run promise of the lent work: w32 is the work of a solve, w64 the accepted poses and then the trial's. The reader's
 -- definition is `optimized` (Optimize.antt), to which the law `run_fit` (proofs/Border.antt) takes the last form here; nothing here adds to it.
 -- Definitions only.
-use Rattle.std.specs.Prelude.{ℕ, ◌*◌, ◌≤◌, ◌≡◌, Bool, true, false, List, length, take, replicate, Float}
+use Rattle.assembly.specs.declared.AssemblyError.TheVariants as assembly_error
+use Rattle.decisions.specs.declared.Why.{Why}
+use Rattle.numbers.specs.declared.Refusal.{Refusal}
+use Rattle.sparse_pgo.specs.declared.Joined.{Joined}
+use Rattle.assembly.specs.declared.AssemblyError.{AssemblyError}
+use Rattle.std.specs.Prelude.{ℕ, ◌*◌, ◌≤◌, ◌≡◌, Bool, true, false, List, length, take, replicate, Float, Err, None, Ok, Option, Result, ⊤}
 use Rattle.std.specs.Float.Ieee.{lt}
 use Rattle.std.specs.Float.Ieee.Scale.{finite}
 use Rattle.numbers.specs.Notation.{num, if_then}
@@ -12,8 +17,6 @@ use Rattle.graph.specs.Lent.{dof_of, lent_links}
 use Rattle.graph.specs.declared.Edge.{Edge}
 use Rattle.profile.specs.Layout.{need}
 use Rattle.solve.specs.Work.{gradient_of, work_after}
-use Rattle.assembly.specs.declared.Assembled.{Assembled}
-use Rattle.assembly.specs.declared.Assembled.TheVariants as made
 use Rattle.decisions.specs.Damping.{lambda_max}
 use Rattle.decisions.specs.Run.{heard, passed, after_turn}
 use Rattle.decisions.specs.Machine.{moved_on, state_of}
@@ -23,13 +26,10 @@ use Rattle.decisions.specs.declared.Outcome.{Outcome}
 use Rattle.decisions.specs.declared.Outcome.TheVariants as outcome
 use Rattle.decisions.specs.declared.Assembly.{Assembly}
 use Rattle.decisions.specs.declared.Assembly.TheVariants as assembly
-use Rattle.decisions.specs.declared.Gate.{Gate}
-use Rattle.decisions.specs.declared.Gate.TheVariants as gate
 use Rattle.decisions.specs.declared.Next.{Next}
 use Rattle.decisions.specs.declared.Next.TheVariants as next
 use Rattle.trials.specs.Trials.{norm_of}
 use Rattle.sparse_pgo.specs.declared.Setup.{Setup}
-use Rattle.sparse_pgo.specs.declared.Answer.{Answer}
 use Rattle.sparse_pgo.specs.Parts.{Parts, numerics, whole}
 use Rattle.sparse_pgo.specs.Numerics.{parts_on}
 use Rattle.sparse_pgo.specs.Optimize.{given}
@@ -68,17 +68,17 @@ abbrev pub AtTop : Setup → Links Edge → State → List Float → List Float 
 AtTop setup l s x w32 = s.fresh ≡ false → Holds setup l x w32
 
 -- what an assembly comes to, its gradient's norm tested
-abbrev pub assembly_in : Setup → Assembled → List Float → Assembly
-assembly_in setup (made.Bad k why) w32 = assembly.Refused (refusal 21 k)
-assembly_in setup made.Short w32 = assembly.Flat
-assembly_in setup made.Done w32 =
+abbrev pub assembly_in : Setup → Result ⊤ AssemblyError → List Float → Assembly
+assembly_in setup (Err (assembly_error.BadEdge k why)) w32 = assembly.Refused (refusal 21 k)
+assembly_in setup (Err assembly_error.Short) w32 = assembly.Flat
+assembly_in setup (Ok _) w32 =
     if_then (lt (norm_of (gradient_of w32 setup.n) setup.n) setup.settings.gradient_tolerance) assembly.Flat assembly.Steep
 
 -- the top of a turn at the poses x, with the assembly, where one is due
-pub record PassedTop (setup : Setup) (l : Links Edge) (s : State) (x : List Float) (r : Gate) (w32 : List Float) : Type 0 where
+pub record PassedTop (setup : Setup) (l : Links Edge) (s : State) (x : List Float) (r : Option (Result Why Refusal)) (w32 : List Float) : Type 0 where
   pub long : length w32 ≡ need setup.n
   pub answer : r ≡ passed setup.settings.limit s ((numerics (parts_in setup l)).assemble x)
-  pub holds : r ≡ gate.Go → Holds setup l x w32
+  pub holds : r ≡ None → Holds setup l x w32
 
 -- whether a trial was accepted
 abbrev pub accepts : Outcome → Bool
@@ -113,12 +113,13 @@ pub record Startable (setup : Setup) : Type 0 where
   pub bounded : lt lambda_max setup.settings.damping ≡ false
 
 -- the first cost, then the turns
-pub record Started (setup : Setup) (l : Links Edge) (before : List Float) (r : Answer) (after : List Float) : Type 0 where
+pub record Started (setup : Setup) (l : Links Edge) (before : List Float) (r : Result Joined Refusal) (after : List Float) : Type 0 where
   pub answer : r ≡ (whole (parts_in setup l) setup.settings (held_in setup before)).answer
   pub held : held_in setup after ≡ (whole (parts_in setup l) setup.settings (held_in setup before)).held
 
 -- with the poses copied in and out, and the work cleared
-pub record Begun (setup : Setup) (l : Links Edge) (poses w32 w64 out : List Float) (r : Answer) (after32 after64 afterOut : List Float) : Type 0 where
+pub record Begun (setup : Setup) (l : Links Edge) (poses w32 w64 out : List Float) (r : Result Joined Refusal)
+    (after32 after64 afterOut : List Float) : Type 0 where
   pub answer : r ≡ (whole (parts_in setup l) setup.settings poses).answer
   pub zero32 : after32 ≡ replicate (length w32) (num 0)
   pub zero64 : after64 ≡ replicate (length w64) (num 0)

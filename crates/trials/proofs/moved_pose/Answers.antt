@@ -15,19 +15,19 @@ returns-in_default c =
 pub delta_of-delta-requires : goal.delta_of-delta-requires
 delta_of-delta-requires c =
     let a = c.args in
-    let below = slot_below a.blocks.now a.free a.p _ (sym c.slot_at.ensures ∙ c.in-Block.is) in
+    let below = slot_below a.blocks.now a.free a.p _ (sym c.slot_at.ensures ∙ c.in-Some.is) in
     let free = c.ranges.free in
     (rw c.dof.ensures (dof_most a.m), omega arith)
 
-pub returns-in-Into : goal.returns-in-Into
-returns-in-Into c =
+pub returns-in-Ok : goal.returns-in-Ok
+returns-in-Ok c =
     let a = c.args in
-    moves_into a.m a.poses.now (λ i. get_or a.step.now i nan) a.p c.pose_at-pose.ensures (sym c.slot_at.ensures ∙ c.in-Block.is)
+    moves_into a.m a.poses.now (λ i. get_or a.step.now i nan) a.p c.pose_at-pose.ensures (sym c.slot_at.ensures ∙ c.in-Some.is)
     c.dof.ensures c.delta_of-delta.ensures
-    (sym c.retract.ensures ∙ c.in-Into.is)
+    (sym c.retract.ensures ∙ c.in-Ok.is)
 
-pub returns-in-Bad : goal.returns-in-Bad
-returns-in-Bad c =
+pub returns-in-Err : goal.returns-in-Err
+returns-in-Err c =
     let a = c.args in
-    moves_bad a.m a.poses.now (λ i. get_or a.step.now i nan) a.p c.pose_at-pose.ensures (sym c.slot_at.ensures ∙ c.in-Block.is)
-    c.dof.ensures c.delta_of-delta.ensures (sym c.retract.ensures ∙ c.in-Bad.is)
+    moves_bad a.m a.poses.now (λ i. get_or a.step.now i nan) a.p c.pose_at-pose.ensures (sym c.slot_at.ensures ∙ c.in-Some.is)
+    c.dof.ensures c.delta_of-delta.ensures (sym c.retract.ensures ∙ c.in-Err.is)

@@ -1,5 +1,4 @@
 -- Invariant: the trial's poses below p stand behind the accepted ones, and whether their retractions went well.
-use Prim.Native.Nat.{◌-◌}
 use lib.ListN.{get_or}
 use lib.Ieee.{nan}
 use Rattle.graph.specs.Lent.{slot_in}
@@ -8,6 +7,3 @@ use Rattle.trials.proofs.retract_free.Given as goal
 
 abbrev pub invariant-loop-p : goal.invariant-loop-p
 invariant-loop-p l = Tried l.m (slot_in l.blocks l.free) (λ i. get_or l.step i nan) l.initial.w l.w l.well l.p
-
-abbrev pub decreases-loop-p : goal.decreases-loop-p
-decreases-loop-p l = l.n - l.p

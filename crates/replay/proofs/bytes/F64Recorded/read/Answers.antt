@@ -1,0 +1,8 @@
+-- The test says that the bits are no NaN's.
+use native.Mathlib.Omega.{arith}
+use lib.Ieee.{binary64}
+use Rattle.numbers.proofs.Read.{bits_no_nan}
+use Rattle.replay.proofs.bytes.F64Recorded.read.Goals as goal
+
+pub float_from_bits-result : goal.float_from_bits-result
+float_from_bits-result c = bits_no_nan binary64 c.from_le_bytes-bits.result (omega arith)
