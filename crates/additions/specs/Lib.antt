@@ -1,1 +1,2 @@
 pub mod Additions
+pub mod Systems

@@ -60,65 +60,126 @@ fn accumulate_gradient(
     Ok(())
 }
 
-// One entry of the Hessian, if it stands in the lower triangle.
-fn add_entry(
-    w: &mut [f32],
-    n: usize,
-    row: usize,
-    col: usize,
-    jr: &[[f32; 6]; 6],
-    r: usize,
-    jc: &[[f32; 6]; 6],
-    c: usize,
-) -> Result<(), Failure>
-    requires { (row < n) × (col < n) × (need n ≤ length w.old) × (r < 6) × (c < 6) }
-    ensures { (result, w.new) ≡ entry_added lower_triangle n row col jr.now r jc.now c w.old }
-{
-    let above = row < col;
-    if above {
-        return Ok(());
-    }
-    let v = dot(jr, r, jc, c);
-    add_to(w, col * n + row, v)
-}
-
-// Row r of the block of rows rb and columns cb.
-fn accumulate_row(
-    w: &mut [f32],
+// A system of n unknowns in its work, dof of them a pose. What is called from several places is inlined always: a call would put the fields into memory, and
+// each number that is stored in w would have the loops read them again.
+#[derive(Drop)]
+struct System<'a> {
+    w: &'a mut [f32],
     n: usize,
     dof: usize,
-    rb: usize,
-    cb: usize,
-    jr: &[[f32; 6]; 6],
-    jc: &[[f32; 6]; 6],
-    r: usize,
-) -> Result<(), Failure>
-    requires { (rb * dof + dof ≤ n) × (cb * dof + dof ≤ n) × (need n ≤ length w.old) × (dof ≤ 6) × (r < dof) }
-    ensures { (result, w.new) ≡ row_added lower_triangle n dof rb cb jr.now jc.now r w.old }
-{
-    for c in 0..dof {
-        add_entry(w, n, rb * dof + r, cb * dof + c, jr, r, jc, c)?;
-    }
-    Ok(())
+    ghost room: { (need n ≤ length w.now) × (dof ≤ 6) },
 }
 
-// The block of rows rb and columns cb, row by row.
-fn accumulate_hessian(
-    w: &mut [f32],
-    n: usize,
-    dof: usize,
-    rb: usize,
-    cb: usize,
-    jr: &[[f32; 6]; 6],
-    jc: &[[f32; 6]; 6],
-) -> Result<(), Failure>
-    requires { (rb * dof + dof ≤ n) × (cb * dof + dof ≤ n) × (need n ≤ length w.old) × (dof ≤ 6) }
-    ensures { (result, w.new) ≡ block_added lower_triangle n dof rb cb jr.now jc.now w.old }
-{
-    for r in 0..dof {
-        accumulate_row(w, n, dof, rb, cb, jr, jc, r)?;
+impl<'a> System<'a> {
+    ghost use Rattle.additions.specs.Systems.{Same};
+
+    // One entry of the Hessian, if it stands in the lower triangle.
+    fn add_entry(
+        &mut self,
+        row: usize,
+        col: usize,
+        jr: &[[f32; 6]; 6],
+        r: usize,
+        jc: &[[f32; 6]; 6],
+        c: usize,
+    ) -> Result<(), Failure>
+        requires { (row < self.old.n) × (col < self.old.n) × (r < 6) × (c < 6) }
+        ensures value { (result, self.new.w.now) ≡ entry_added lower_triangle self.old.n row col jr.now r jc.now c self.old.w.now }
+        ensures same { Same self.old self.new }
+    {
+        let above = row < col;
+        if above {
+            return Ok(());
+        }
+        let v = dot(jr, r, jc, c);
+        add_to(self.w, col * self.n + row, v)
     }
-    Ok(())
+
+    // Row r of the block of rows rb and columns cb.
+    fn accumulate_row(
+        &mut self,
+        rb: usize,
+        cb: usize,
+        jr: &[[f32; 6]; 6],
+        jc: &[[f32; 6]; 6],
+        r: usize,
+    ) -> Result<(), Failure>
+        requires { (rb * self.old.dof + self.old.dof ≤ self.old.n) × (cb * self.old.dof + self.old.dof ≤ self.old.n) × (r < self.old.dof) }
+        ensures value { (result, self.new.w.now) ≡ row_added lower_triangle self.old.n self.old.dof rb cb jr.now jc.now r self.old.w.now }
+        ensures same { Same self.old self.new }
+    {
+        for c in 0..self.dof {
+            self.add_entry(rb * self.dof + r, cb * self.dof + c, jr, r, jc, c)?;
+        }
+        Ok(())
+    }
+
+    // The block of rows rb and columns cb, row by row.
+    #[inline(always)]
+    fn accumulate_hessian(
+        &mut self,
+        rb: usize,
+        cb: usize,
+        jr: &[[f32; 6]; 6],
+        jc: &[[f32; 6]; 6],
+    ) -> Result<(), Failure>
+        requires { (rb * self.old.dof + self.old.dof ≤ self.old.n) × (cb * self.old.dof + self.old.dof ≤ self.old.n) }
+        ensures value { (result, self.new.w.now) ≡ block_added lower_triangle self.old.n self.old.dof rb cb jr.now jc.now self.old.w.now }
+        ensures same { Same self.old self.new }
+    {
+        for r in 0..self.dof {
+            self.accumulate_row(rb, cb, jr, jc, r)?;
+        }
+        Ok(())
+    }
+
+    // A free end: its part of the gradient, then its block on the diagonal.
+    #[inline(always)]
+    fn end_within(&mut self, b: usize, j: &[[f32; 6]; 6], r: &[f32; 6]) -> Result<(), Failure>
+        requires { b * self.old.dof + self.old.dof ≤ self.old.n }
+        ensures value { (result, self.new.w.now) ≡ end_added lower_triangle self.old.n self.old.dof b j.now r.now self.old.w.now }
+        ensures same { Same self.old self.new }
+    {
+        let at = self.n * self.n + self.n + b * self.dof;
+        accumulate_gradient(&mut self.w[at..], self.dof, j, r)?;
+        self.accumulate_hessian(b, b, j, j)
+    }
+
+    // The cross block stands below the diagonal: where a's block is smaller, rows come from b's Jacobian.
+    fn add_cross(
+        &mut self,
+        ba: usize,
+        bb: usize,
+        ja: &[[f32; 6]; 6],
+        jb: &[[f32; 6]; 6],
+    ) -> Result<(), Failure>
+        requires { (ba * self.old.dof + self.old.dof ≤ self.old.n) × (bb * self.old.dof + self.old.dof ≤ self.old.n) }
+        ensures value { (result, self.new.w.now) ≡ cross_added lower_triangle self.old.n self.old.dof ba bb ja.now jb.now self.old.w.now }
+        ensures same { Same self.old self.new }
+    {
+        if ba < bb {
+            return self.accumulate_hessian(bb, ba, jb, ja);
+        }
+        self.accumulate_hessian(ba, bb, ja, jb)
+    }
+
+    // Two free ends: a, then b, then the cross block.
+    fn ends_within(
+        &mut self,
+        i: usize,
+        k: usize,
+        ja: &[[f32; 6]; 6],
+        jb: &[[f32; 6]; 6],
+        r: &[f32; 6],
+    ) -> Result<(), Failure>
+        requires { (i * self.old.dof + self.old.dof ≤ self.old.n) × (k * self.old.dof + self.old.dof ≤ self.old.n) }
+        ensures value { (result, self.new.w.now) ≡ ends_added lower_triangle self.old.n self.old.dof i k ja.now jb.now r.now self.old.w.now }
+        ensures same { Same self.old self.new }
+    {
+        self.end_within(i, ja, r)?;
+        self.end_within(k, jb, r)?;
+        self.add_cross(i, k, ja, jb)
+    }
 }
 
 // Whether block b of dof unknowns stands within the n unknowns, and `len` numbers have room for them.
@@ -137,24 +198,7 @@ fn block_fits(len: usize, n: usize, dof: usize, b: usize) -> bool
     b * dof + dof <= n
 }
 
-// A free end: its part of the gradient, then its block on the diagonal.
-fn end_within(
-    w: &mut [f32],
-    n: usize,
-    dof: usize,
-    b: usize,
-    j: &[[f32; 6]; 6],
-    r: &[f32; 6],
-) -> Result<(), Failure>
-    requires { (b * dof + dof ≤ n) × (need n ≤ length w.old) × (dof ≤ 6) }
-    ensures { (result, w.new) ≡ end_added lower_triangle n dof b j.now r.now w.old }
-{
-    let at = n * n + n + b * dof;
-    accumulate_gradient(&mut w[at..], dof, j, r)?;
-    accumulate_hessian(w, n, dof, b, b, j, j)
-}
-
-// The same, where its block stands within the system; a block outside adds nothing.
+// What a free end adds; nothing, where its block stands outside the system.
 pub fn add_end(
     w: &mut [f32],
     n: usize,
@@ -168,29 +212,11 @@ pub fn add_end(
     if !block_fits(w.len(), n, dof, b) {
         return Ok(());
     }
-    end_within(w, n, dof, b, j, r)
+    let mut system = System { w, n, dof };
+    system.end_within(b, j, r)
 }
 
-// The cross block stands below the diagonal: where a's block is smaller, rows come from b's Jacobian.
-fn add_cross(
-    w: &mut [f32],
-    n: usize,
-    dof: usize,
-    ba: usize,
-    bb: usize,
-    ja: &[[f32; 6]; 6],
-    jb: &[[f32; 6]; 6],
-) -> Result<(), Failure>
-    requires { (ba * dof + dof ≤ n) × (bb * dof + dof ≤ n) × (need n ≤ length w.old) × (dof ≤ 6) }
-    ensures { (result, w.new) ≡ cross_added lower_triangle n dof ba bb ja.now jb.now w.old }
-{
-    if ba < bb {
-        return accumulate_hessian(w, n, dof, bb, ba, jb, ja);
-    }
-    accumulate_hessian(w, n, dof, ba, bb, ja, jb)
-}
-
-// Two free ends: a, then b, then the cross block; nothing, where a block stands outside the system.
+// What two free ends add; nothing, where a block stands outside the system.
 pub fn add_ends(
     w: &mut [f32],
     n: usize,
@@ -210,7 +236,6 @@ pub fn add_ends(
     if !block_fits(w.len(), n, dof, k) {
         return Ok(());
     }
-    end_within(w, n, dof, i, ja, r)?;
-    end_within(w, n, dof, k, jb, r)?;
-    add_cross(w, n, dof, i, k, ja, jb)
+    let mut system = System { w, n, dof };
+    system.ends_within(i, k, ja, jb, r)
 }

@@ -22,7 +22,7 @@ use Rattle.numbers.specs.declared.Failure.{Failure}
 use Rattle.exp_log.specs.Formats.{Twist}
 use Rattle.rotations.specs.declared.Pose.{Pose}
 use Rattle.graph.specs.Graph.{Links}
-use Rattle.graph.specs.Lent.{dof_of, pose_at, edge_at, end_a, end_b, none, slot_in, lent_links}
+use Rattle.graph.specs.Lent.{dof_of, pose_at, none, slot_in}
 use Rattle.graph.specs.declared.Edge.{Edge}
 use Rattle.graph.specs.declared.Manifold.{Manifold}
 use Rattle.graph.specs.declared.Manifold.TheVariants.{Se3, Gravity}
@@ -109,11 +109,11 @@ idle m n a b e None (Some k) w = refl
 idle m n a b e (Some i) None w = refl
 idle m n a b e (Some i) (Some k) w = refl
 
-module _ (m : Manifold) (n : ℕ) (poses : List Float) (ends : List ℕ) (edges : List Float) (blocks : List ℕ) (free k : ℕ) (w : List Float) where
+module _ (m : Manifold) (n : ℕ) (poses : List Float) (l : Links Edge) (k : ℕ) (w : List Float) where
   pub edge_added : {x y : ℕ} {sa sb : Option ℕ} {s : Went × List Float}
-      → x ≡ end_a ends k → y ≡ end_b ends k → sa ≡ slot_in blocks free x → sb ≡ slot_in blocks free y
-      → s ≡ edge_of lower_triangle m n (pose_at poses x) (pose_at poses y) (edge_at edges k) sa sb w
-      → s ≡ edge_step lower_triangle m n (lent_links ends edges blocks free) (pose_at poses) k w
+      → x ≡ l.a k → y ≡ l.b k → sa ≡ l.slot x → sb ≡ l.slot y
+      → s ≡ edge_of lower_triangle m n (pose_at poses x) (pose_at poses y) (l.measured k) sa sb w
+      → s ≡ edge_step lower_triangle m n l (pose_at poses) k w
   unfolding add_at
   edge_added p q f g t = t ∙ rw (f, g, p, q) (idle m n _ _ _ _ _ w)
 

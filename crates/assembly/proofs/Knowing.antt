@@ -18,7 +18,8 @@ use lib.Ieee.{Float}
 use Rattle.numbers.specs.Notation.{if_then}
 use Rattle.rotations.specs.declared.Pose.{Pose}
 use Rattle.pose_conversion.specs.Conversions.{checked_transform}
-use Rattle.graph.specs.Lent.{dof_of, pose_at, slot_in, none}
+use Rattle.graph.specs.Lent.{dof_of, pose_at, slot_in, links_lent, none}
+use Rattle.graph.specs.declared.LentLinks.{LentLinks}
 use Rattle.graph.proofs.Degrees.{dof_most}
 use Rattle.graph.specs.declared.Edge.{Edge}
 use Rattle.graph.specs.declared.Manifold.{Manifold}
@@ -36,7 +37,8 @@ use Rattle.additions.specs.Additions.{lower_triangle}
 use Rattle.assembly.specs.Assembly.{one_of, both_of}
 use Rattle.assembly.specs.FromParts.{one_in, both_in}
 use Rattle.jacobians.specs.Cells.{spot, stowed_probes}
-use Rattle.assembly.specs.Known.{Axis, Probed, Posed, Ready, FreePose}
+use Rattle.assembly.specs.Known.{Axis, Probed, Posed, Ready, FreePose, Shaped}
+use Rattle.assembly.specs.declared.Shape.{Shape}
 use Rattle.residual.specs.declared.EdgeEndpoint.{EdgeEndpoint}
 use Rattle.jacobians.proofs.Parting.{end_pose}
 use Rattle.assembly.proofs.Parting.{one_linked, both_linked}
@@ -192,16 +194,16 @@ slot_below blocks free x {b} n f e = go (ltb x 256) (ltb-true x 256) (ltb-false 
     go true p q = p refl
     go false p q = let h : 256 ≤ x = q refl in far (ltb (get_or blocks x none) free) refl (get_or-eq_default blocks none (omega arith)) e
 
-pub free_known : (m : Manifold) (n : ℕ) (poses l : List Float) (blocks : List ℕ) (free x : ℕ) {s : Option ℕ}
-    → n ≡ dof_of m * free → length blocks ≡ 256 → free ≤ 4294967295 → Ready m poses (slot_in blocks free) l 256 → s ≡ slot_in blocks free x
-    → (i : ℕ) → s ≡ Some i → FreePose m n poses l x i
-free_known m n poses l blocks free x {s} size len most r e i f =
-    let b : x < 256 = slot_below blocks free x len most (sym e ∙ f) in
-    let known = r.probes x b (ap is_some (sym e ∙ f)) in
+pub free_known : {shape : Shape} {poses l : List Float} {links : LentLinks} {x : ℕ} {s : Option ℕ}
+    → Shaped shape poses links l → s ≡ (links_lent links).slot x → {i : ℕ} → s ≡ Some i → FreePose shape.manifold shape.n poses l x i
+free_known {shape} {poses} {l} {links} {x} h e {i} f =
+    let m = shape.manifold in
+    let b : x < 256 = slot_below links.blocks.now links.free x h.whole h.most (sym e ∙ f) in
+    let known = h.ready.probes x b (ap is_some (sym e ∙ f)) in
     record {
-      fits = slot_fits m blocks free x size e i f;
+      fits = slot_fits m links.blocks.now links.free x h.size e i f;
       below = b;
-      len = r.len;
+      len = h.ready.len;
       probes = known;
       shares = λ c ahead t u q g h.
           shifts_share m (pose_at poses x) c 0 ahead true q (omega arith)

@@ -16,7 +16,8 @@ use Rattle.numbers.specs.Walks.{only, Went}
 use Rattle.exp_log.specs.Formats.{Twist}
 use Rattle.rotations.specs.declared.Pose.{Pose}
 use Rattle.graph.specs.Graph.{Links, is_active}
-use Rattle.graph.specs.Lent.{dof_of, lent_links}
+use Rattle.graph.specs.Lent.{dof_of, lent_links, links_lent}
+use Rattle.graph.specs.declared.LentLinks.{LentLinks}
 use Rattle.graph.specs.declared.Edge.{Edge}
 use Rattle.graph.specs.declared.Manifold.{Manifold}
 use Rattle.residual.specs.Residuals.{six_of}
@@ -40,6 +41,9 @@ pub record Fits (m : Manifold) (n : ℕ) (l : Links Edge) : Type 0 where
 pub lent_fits : (m : Manifold) (ends : List ℕ) (edges : List Float) (blocks : List ℕ) (free : ℕ) → Fits m (dof_of m * free) (lent_links ends edges blocks free)
 lent_fits m ends edges blocks free =
     record { a_fits = λ k _. slot_fits m blocks free _ refl refl; b_fits = λ k _. slot_fits m blocks free _ refl refl }
+
+pub links_fit : (m : Manifold) (l : LentLinks) → Fits m (dof_of m * l.free) (links_lent l)
+links_fit m l = lent_fits m l.ends.now l.edges.now l.blocks.now l.free
 
 -- ---- two assemblies side by side, which keep entries by two tests: P holds through each addition to the gradient, each diagonal block and each block
 -- ---- below; `Level` is what is known where an edge has both ends in one block

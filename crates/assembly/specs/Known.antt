@@ -3,7 +3,8 @@
 use Rattle.numbers.specs.declared.Failure.{Failure}
 use Rattle.rotations.specs.Formats.{Transform}
 use Rattle.std.specs.Prelude.{ℕ, ◌+◌, ◌*◌, ◌<◌, ◌≤◌, ◌≡◌, ◌⊎◌, Bool, true, false, List, length, Float, None, Option, Result, Some, is_some}
-use Rattle.graph.specs.Lent.{dof_of, pose_at, slot_in}
+use Rattle.graph.specs.Lent.{dof_of, pose_at, links_lent}
+use Rattle.graph.specs.declared.LentLinks.{LentLinks}
 use Rattle.graph.specs.declared.Manifold.{Manifold}
 use Rattle.costs.specs.Stowed.{stowed_in, known_poses, Based}
 use Rattle.probes.specs.Probes.{probes_of}
@@ -46,8 +47,8 @@ pub record FreePose (m : Manifold) (n : ℕ) (poses l : List Float) (x i : ℕ) 
   pub shares : SharesTurn (stowed_probes l x)
 
 -- what the walk over the edges relies on
-pub record Shaped (shape : Shape) (poses : List Float) (blocks : List ℕ) (l : List Float) : Type 0 where
-  pub size : shape.n ≡ dof_of shape.manifold * shape.free
-  pub most : shape.free ≤ 4294967295
-  pub whole : length blocks ≡ 256
-  pub ready : Ready shape.manifold poses (slot_in blocks shape.free) l 256
+pub record Shaped (shape : Shape) (poses : List Float) (links : LentLinks) (l : List Float) : Type 0 where
+  pub size : shape.n ≡ dof_of shape.manifold * links.free
+  pub most : links.free ≤ 4294967295
+  pub whole : length links.blocks.now ≡ 256
+  pub ready : Ready shape.manifold poses (links_lent links).slot l 256

@@ -6,7 +6,7 @@ ghost use Rattle.std.specs.Prelude.{◌≡◌, ◌+◌, ◌*◌, ◌/◌, ◌^�
 ghost use Rattle.numbers.specs.Walks.{each};
 ghost use Rattle.profile.specs.Layout.{need};
 ghost use Rattle.additions.specs.Additions.{lower_triangle};
-ghost use Rattle.graph.specs.Lent.{dof_of, pose_at, edge_at, slot_in, lent_links};
+ghost use Rattle.graph.specs.Lent.{dof_of, pose_at, edge_at, links_lent};
 ghost use Rattle.jacobians.specs.FromProbes.{SharesTurn};
 ghost use Rattle.jacobians.specs.Cells.{stowed_probes};
 ghost use Rattle.assembly.specs.Assembly.{edge_step, assembled_from, assembled_of};
@@ -18,7 +18,7 @@ ghost use Rattle.costs.specs.Stowed.{known_poses, Based};
 ghost use Rattle.probes.specs.Probes.{probes_of};
 ghost use Rattle.probes.specs.Stances.{probing_of, probe_by};
 
-use graph::Manifold;
+use graph::{LentLinks, Manifold};
 use numbers::Failure;
 use probes::{Probing, Stance};
 use residual::{EdgeEndpoint, Linked};
@@ -34,11 +34,13 @@ pub enum AssemblyError {
 #[derive(Clone, Copy)]
 struct Shape {
     manifold: Manifold,
-    free: u32,
     n: usize,
 }
 
 // ---- what is known of each pose: its transform, and of a free pose its probes
+
+// `known` is one array of 26,624 numbers, lent as a slice, since costs and jacobians promise for slices of any length; x is one of its 256 poses. Neither is
+// a struct: each function asks just what its own indexes need.
 
 fn fill_axis(known: &mut [f32], stance: Result<Stance, Failure>, x: usize, c: usize)
     requires { (x < 256) × (c < 6) × (length known.old ≡ 26624) }
@@ -77,14 +79,14 @@ fn fill_pose(
     }
 }
 
-fn fill(known: &mut [f32], m: Manifold, poses: &[f64], blocks: &[u32; 256], free: u32)
+fn fill(known: &mut [f32], m: Manifold, poses: &[f64], links: LentLinks<'_>)
     requires { length known.old ≡ 26624 }
-    ensures { Ready m poses.now (slot_in blocks.now free) known.new 256 }
+    ensures { Ready m poses.now (links_lent links.entry).slot known.new 256 }
 {
     costs::fill_bases(known, poses);
     let probing = probes::probing_of(m);
     for x in 0..256usize {
-        let slot = graph::slot_at(blocks, free, x);
+        let slot = links.slot(x);
         fill_pose(known, m, probing, poses, slot, x);
     }
 }
@@ -156,30 +158,28 @@ fn add_edge(
     shape: Shape,
     known: &[f32],
     poses: &[f64],
-    ends: &[u32],
-    edges: &[f32],
-    blocks: &[u32; 256],
+    links: LentLinks<'_>,
     k: usize,
 ) -> Result<(), Failure>
-    requires { Shaped shape poses.now blocks.now known.now × (need shape.n ≤ length w.old) × (k < 2 ^ 62) }
+    requires { Shaped shape poses.now links known.now × (need shape.n ≤ length w.old) × (k < 2 ^ 62) }
     ensures { (result, w.new) ≡ edge_step lower_triangle shape.manifold shape.n
-        (lent_links ends.now edges.now blocks.now shape.free) (pose_at poses.now) k w.old }
+        (links_lent links.entry) (pose_at poses.now) k w.old }
 {
     let m = shape.manifold;
-    let a = numbers::index_at(ends, k * 2);
-    let b = numbers::index_at(ends, k * 2 + 1);
-    let sa = graph::slot_at(blocks, shape.free, a);
-    let sb = graph::slot_at(blocks, shape.free, b);
+    let a = numbers::index_at(links.ends, k * 2);
+    let b = numbers::index_at(links.ends, k * 2 + 1);
+    let sa = links.slot(a);
+    let sb = links.slot(b);
     match sa {
         None => match sb {
             None => Ok(()),
             Some(j) => {
-                let linked = link(known, poses, edges, a, b, k);
+                let linked = link(known, poses, links.edges, a, b, k);
                 add_one(w, shape.n, m, known, b, linked, EdgeEndpoint::B, j)
             }
         },
         Some(i) => {
-            let linked = link(known, poses, edges, a, b, k);
+            let linked = link(known, poses, links.edges, a, b, k);
             match sb {
                 None => add_one(w, shape.n, m, known, a, linked, EdgeEndpoint::A, i),
                 Some(j) => add_both(w, shape.n, m, known, a, b, linked, i, j),
@@ -194,16 +194,14 @@ fn add_edges(
     shape: Shape,
     known: &[f32],
     poses: &[f64],
-    ends: &[u32],
-    edges: &[f32],
-    blocks: &[u32; 256],
+    links: LentLinks<'_>,
 ) -> Result<(), AssemblyError>
-    requires { Shaped shape poses.now blocks.now known.now × (need shape.n ≤ length w.old) }
+    requires { Shaped shape poses.now links known.now × (need shape.n ≤ length w.old) }
     ensures { (result, w.new) ≡ assembled_from (each (edge_step lower_triangle shape.manifold shape.n
-        (lent_links ends.now edges.now blocks.now shape.free) (pose_at poses.now)) (length ends.now / 2) w.old) }
+        (links_lent links.entry) (pose_at poses.now)) (length links.entry.ends.now / 2) w.old) }
 {
-    for k in 0..ends.len() / 2 {
-        if let Err(why) = add_edge(w, shape, known, poses, ends, edges, blocks, k) {
+    for k in 0..links.ends.len() / 2 {
+        if let Err(why) = add_edge(w, shape, known, poses, links, k) {
             return Err(AssemblyError::BadEdge { edge: k, why });
         }
     }
@@ -215,19 +213,17 @@ fn add_all(
     w: &mut [f32],
     shape: Shape,
     poses: &[f64],
-    ends: &[u32],
-    edges: &[f32],
-    blocks: &[u32; 256],
+    links: LentLinks<'_>,
 ) -> Result<(), AssemblyError>
-    requires { (shape.n ≡ dof_of shape.manifold * shape.free) × (shape.free ≤ 4294967295) × (length blocks.now ≡ 256)
+    requires { (shape.n ≡ dof_of shape.manifold * links.free) × (links.free ≤ 4294967295) × (length links.blocks.now ≡ 256)
         × (need shape.n ≤ length w.old) }
     ensures { (result, w.new) ≡ assembled_from (each (edge_step lower_triangle shape.manifold shape.n
-        (lent_links ends.now edges.now blocks.now shape.free) (pose_at poses.now)) (length ends.now / 2) w.old) }
+        (links_lent links.entry) (pose_at poses.now)) (length links.entry.ends.now / 2) w.old) }
 {
     let m = shape.manifold;
     let mut known = [0.0f32; 26624];
-    fill(&mut known, m, poses, blocks, shape.free);
-    add_edges(w, shape, &known, poses, ends, edges, blocks)
+    fill(&mut known, m, poses, links);
+    add_edges(w, shape, &known, poses, links)
 }
 
 // The blocks lent are 256, which the code after it relies on: an array's length is known where it is taken as a slice.
@@ -238,28 +234,21 @@ fn count_blocks(blocks: &[u32; 256]) -> usize
     all.len()
 }
 
-// Gradient and lower triangle of the Hessian, from +0, in the work of dof × free unknowns; `blocks` names the block of each pose.
+// Gradient and lower triangle of the Hessian, from +0, in the work of dof × free unknowns.
 pub fn build_normal_system_with_mapping(
     w: &mut [f32],
     m: Manifold,
     poses: &[f64],
-    ends: &[u32],
-    edges: &[f32],
-    blocks: &[u32; 256],
-    free: u32,
+    links: LentLinks<'_>,
 ) -> Result<(), AssemblyError>
-    ensures { (result, w.new) ≡ assembled_of m (dof_of m * free) (lent_links ends.now edges.now blocks.now free) (pose_at poses.now) w.old }
+    ensures { (result, w.new) ≡ assembled_of m (dof_of m * links.entry.free) (links_lent links.entry) (pose_at poses.now) w.old }
 {
-    let n = graph::dof(m) * (free as usize);
+    let n = graph::dof(m) * (links.free as usize);
     if !profile::has_room(w.len(), n) {
         return Err(AssemblyError::Short);
     }
     slices::clear(&mut w[..n * (n + 3)]);
-    count_blocks(blocks);
-    let shape = Shape {
-        manifold: m,
-        free,
-        n,
-    };
-    add_all(w, shape, poses, ends, edges, blocks)
+    count_blocks(links.blocks);
+    let shape = Shape { manifold: m, n };
+    add_all(w, shape, poses, links)
 }

@@ -82,7 +82,7 @@ checked_by (Err r) c = Err r
 unfoldable pub block_number : {P M : Type 0} → Graph P M → ℕ → ℕ
 block_number g x = if_then (is_free g x) (block_of g x) none
 
--- the array of blocks that the ends and the fixed list make, and how many poses are free
+-- the array of blocks that the ends and the fixed list make, and how many poses are free (the word of a private function)
 abbrev pub Numbered : List ℕ → List ℕ → List ℕ → ℕ → Type 0
 Numbered ends fixed at free =
     let g = lent_graph [] ends [] fixed in
@@ -95,7 +95,7 @@ blocks_of i = table (block_number (graph_of i)) 256
 abbrev pub graph_answer : Input → Result Counts Refusal
 graph_answer i = checked_by (verdict (graph_rows i)) (counts_of i)
 
--- that, and where it is counts, what the settings say
+-- that, and where it is counts, what the settings say (the word of a private function)
 abbrev pub settings_answer : Result Counts Refusal → Settings → Result Counts Refusal
 settings_answer (Ok c) s = checked_by (verdict (setting_rows s)) c
 settings_answer (Err r) s = Err r

@@ -26,7 +26,8 @@ pub struct Counts {
     pub free: u32,
 }
 
-// The answer, and the block of every pose: u32::MAX for one that is not free.
+// The answer, and the block of every pose: u32::MAX for one that is not free, and no Option, since row 26 takes the blocks as labels, of which the largest
+// wins, and that must be the one of no free pose.
 #[derive(Clone, Copy)]
 pub struct Checks {
     pub answer: Result<Counts, Refusal>,

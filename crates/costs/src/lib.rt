@@ -4,13 +4,13 @@
 ghost use Rattle.std.specs.Prelude.{◌≡◌, ◌+◌, ◌*◌, ◌/◌, ◌<◌, ◌≤◌, length};
 ghost use Rattle.numbers.specs.Walks.{each, well, only, made};
 ghost use Rattle.graph.specs.Graph.{is_active};
-ghost use Rattle.graph.specs.Lent.{pose_at, edge_at, lent_links};
+ghost use Rattle.graph.specs.Lent.{pose_at, edge_at, links_lent};
 ghost use Rattle.residual.specs.EdgeParts.{linked_of};
 ghost use Rattle.costs.specs.Stowed.{eight_of, with_cell, stowing, stowed_from, stowed_in, known_poses, with_bases, base_in, Based};
 ghost use Rattle.costs.specs.Costs.{square_step, priced, price_at, cost_of};
 
 use exp_log::Twist;
-use graph::Edge;
+use graph::{Edge, LentLinks};
 use numbers::Failure;
 use residual::Linked;
 use rotations::Transform;
@@ -22,8 +22,9 @@ pub struct BadEdge {
     pub why: Failure,
 }
 
-// ---- transforms stowed in numbers: `stow`, `stowed`, `base_at` and the Jacobians' laws (`Cells`) promise what stands in lent numbers, so these are no array
-// of Results
+// ---- transforms stowed in numbers
+
+// These are no array of Results: `stow`, `stowed`, `base_at` and the Jacobians' laws (`Cells`) promise what stands in lent numbers.
 
 // The eight numbers of a cell: quaternion, translation, and whether it could be had.
 fn eight_of(x: Result<Transform<f32>, Failure>) -> [f32; 8]
@@ -152,26 +153,22 @@ fn active_edge_cost(
     known: &[f32],
     count: usize,
     poses: &[f64],
-    ends: &[u32],
-    edges: &[f32],
-    blocks: &[u32; 256],
-    free: u32,
+    links: LentLinks<'_>,
     k: usize,
     c: f32,
 ) -> Result<f32, Failure>
-    requires { (k < length ends.now / 2) × Based poses.now known.now count }
-    ensures { result ≡ made (only (is_active (lent_links ends.now edges.now blocks.now free) k)
-        (price_at (lent_links ends.now edges.now blocks.now free) (pose_at poses.now) k) c) }
+    requires { (k < length links.ends.now / 2) × Based poses.now known.now count }
+    ensures { result ≡ made (only (is_active (links_lent links.entry) k)
+        (price_at (links_lent links.entry) (pose_at poses.now) k) c) }
 {
-    let a = numbers::index_at(ends, k * 2);
-    let b = numbers::index_at(ends, k * 2 + 1);
-    let active = graph::slot_at(blocks, free, a).is_some()
-        | graph::slot_at(blocks, free, b).is_some();
+    let a = numbers::index_at(links.ends, k * 2);
+    let b = numbers::index_at(links.ends, k * 2 + 1);
+    let active = links.slot(a).is_some() | links.slot(b).is_some();
     if !active {
         return Ok(c);
     }
     accumulate_edge_squared_cost(
-        residual::six_in(linked_at(known, count, poses, edges, a, b, k)),
+        residual::six_in(linked_at(known, count, poses, links.edges, a, b, k)),
         c,
     )
 }
@@ -181,17 +178,14 @@ fn cost_over(
     known: &[f32],
     count: usize,
     poses: &[f64],
-    ends: &[u32],
-    edges: &[f32],
-    blocks: &[u32; 256],
-    free: u32,
+    links: LentLinks<'_>,
 ) -> Result<f32, BadEdge>
     requires { Based poses.now known.now count }
-    ensures { result ≡ cost_of (lent_links ends.now edges.now blocks.now free) (pose_at poses.now) }
+    ensures { result ≡ cost_of (links_lent links.entry) (pose_at poses.now) }
 {
     let mut c = 0.0f32;
-    for k in 0..ends.len() / 2 {
-        match active_edge_cost(known, count, poses, ends, edges, blocks, free, k, c) {
+    for k in 0..links.ends.len() / 2 {
+        match active_edge_cost(known, count, poses, links, k, c) {
             Ok(more) => c = more,
             Err(why) => return Err(BadEdge { edge: k, why }),
         }
@@ -202,14 +196,11 @@ fn cost_over(
 // The cost of the active edges at the lent poses.
 pub fn active_total_squared_residual_cost(
     poses: &[f64],
-    ends: &[u32],
-    edges: &[f32],
-    blocks: &[u32; 256],
-    free: u32,
+    links: LentLinks<'_>,
 ) -> Result<f32, BadEdge>
-    ensures { result ≡ cost_of (lent_links ends.now edges.now blocks.now free) (pose_at poses.now) }
+    ensures { result ≡ cost_of (links_lent links.entry) (pose_at poses.now) }
 {
     let mut known = [0.0f32; 2048];
     fill_bases(&mut known, poses);
-    cost_over(&known, known_poses(poses), poses, ends, edges, blocks, free)
+    cost_over(&known, known_poses(poses), poses, links)
 }

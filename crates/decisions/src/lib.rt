@@ -49,7 +49,7 @@ pub enum Trial {
     Rejected(Reason),
 }
 
-// What an assembly comes to: refused, a gradient below its tolerance, or a system to solve.
+// What an assembly comes to: refused, a gradient below its tolerance, or a system to solve. Three ends of a step, of which one goes on: no Result says which.
 #[derive(Clone, Copy)]
 pub enum Assembly {
     Refused(Refusal),
@@ -57,7 +57,7 @@ pub enum Assembly {
     Steep,
 }
 
-// What a solve comes to, before its trial is judged.
+// What a solve comes to, before its trial is judged: ends that a run tells apart, of which none is the failure of another.
 #[derive(Clone, Copy)]
 pub enum Raw {
     Failed,
@@ -66,6 +66,7 @@ pub enum Raw {
     Numerical(Numerical),
 }
 
+// The same with the trial judged.
 #[derive(Clone, Copy)]
 pub enum Outcome {
     Failed,
@@ -100,6 +101,7 @@ pub fn decreased_damping(damping: f32) -> f32
     ensures { result ≡ decreased damping }
 {
     let q = damping / LAMBDA_FACTOR;
+    // not max, which would pass over a NaN
     if q < LAMBDA_MIN { LAMBDA_MIN } else { q }
 }
 

@@ -1,5 +1,6 @@
 // The functions that a host program links: slices cross as pointer and length, numbers as themselves. A slice of another length than named gets
-// 4294967295 back, and nothing is changed; elsewhere 0 means done.
+// 4294967295 back, and nothing is changed; elsewhere 0 means done. This is the C interface: names, numbers and lists one by one are as C has them, also where
+// two functions differ in a format or in gravity.
 #![tactic(auto)]
 
 ghost use Rattle.std.specs.Prelude.{◌≡◌, ◌+◌, ◌*◌, ◌<◌, eqb, length, slice_index_or};

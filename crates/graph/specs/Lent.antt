@@ -6,6 +6,7 @@ use Rattle.numbers.specs.Notation.{if_then}
 use Rattle.rotations.specs.Rotation.{vec}
 use Rattle.rotations.specs.declared.Pose.{Pose}
 use Rattle.graph.specs.declared.Edge.{Edge}
+use Rattle.graph.specs.declared.LentLinks.{LentLinks}
 use Rattle.graph.specs.declared.Manifold.{Manifold}
 use Rattle.graph.specs.declared.Manifold.TheVariants.{Se3, Gravity}
 use Rattle.graph.specs.Graph.{Links}
@@ -66,3 +67,7 @@ slot_in blocks free x = let b = get_or blocks x none in if_then (ltb b free) (So
 -- the edges with the slots of such an array
 abbrev pub lent_links : List ℕ → List Float → List ℕ → ℕ → Links Edge
 lent_links ends edges blocks free = record { edges = length ends / 2; a = end_a ends; b = end_b ends; measured = edge_at edges; slot = slot_in blocks free }
+
+-- the same, of what is lent together
+abbrev pub links_lent : LentLinks → Links Edge
+links_lent l = lent_links l.ends.now l.edges.now l.blocks.now l.free

@@ -4,7 +4,7 @@
 ghost use Rattle.std.specs.Prelude.{◌≡◌, ◌+◌, ◌^◌, ◌<◌, get_or};
 ghost use Rattle.std.specs.Float.{nan};
 ghost use Rattle.rotations.specs.Rotation.{vec};
-ghost use Rattle.graph.specs.Lent.{dof_of, pose_from, pose_at, numbers_of, edge_from, edge_at, none, slot_in};
+ghost use Rattle.graph.specs.Lent.{dof_of, pose_from, pose_at, numbers_of, edge_from, edge_at, none, slot_in, links_lent};
 
 use rotations::{Mat3, Pose, Quat, Transform, Vec3};
 
@@ -23,6 +23,15 @@ pub enum Manifold {
 pub struct Edge {
     pub measured: Transform<f32>,
     pub weight: f32,
+}
+
+// The edges of a graph as they are lent, with the block of each pose and how many blocks there are: what tells which edges are active, and where.
+#[derive(Clone, Copy)]
+pub struct LentLinks<'a> {
+    pub ends: &'a [u32],
+    pub edges: &'a [f32],
+    pub blocks: &'a [u32; 256],
+    pub free: u32,
 }
 
 // Degrees of freedom a pose.
@@ -51,7 +60,7 @@ fn vec3_at(poses: &[f64], at: usize, j: usize) -> Vec3<f64>
 fn no_pose() -> Pose
     ensures { result ≡ pose_from (λ _. nan) }
 {
-    let x = 0.0f64 / 0.0f64;
+    let x = f64::NAN;
     let v = Vec3 { x, y: x, z: x };
     Pose {
         rotation: Mat3 { x: v, y: v, z: v },
@@ -112,7 +121,7 @@ fn transform_at(edges: &[f32], at: usize) -> Transform<f32>
 fn no_edge() -> Edge
     ensures { result ≡ edge_from (λ _. nan) }
 {
-    let x = 0.0f32 / 0.0f32;
+    let x = f32::NAN;
     Edge {
         measured: Transform {
             q: Quat {
@@ -148,7 +157,7 @@ pub fn block_at(blocks: &[u32], x: usize) -> u32
     if x < blocks.len() {
         blocks[x]
     } else {
-        4294967295
+        u32::MAX
     }
 }
 
@@ -158,4 +167,13 @@ pub fn slot_at(blocks: &[u32; 256], free: u32, x: usize) -> Option<usize>
 {
     let b = block_at(blocks, x);
     if b < free { Some(b as usize) } else { None }
+}
+
+impl LentLinks<'_> {
+    // The slot of pose x.
+    pub fn slot(&self, x: usize) -> Option<usize>
+        ensures { result ≡ (links_lent self.now).slot x }
+    {
+        slot_at(self.blocks, self.free, x)
+    }
 }

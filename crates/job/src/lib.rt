@@ -14,7 +14,7 @@ ghost use Rattle.job.specs.Lent.{SameLoans, held_in, job_in};
 use job_records::{Cursor, Tally};
 use numbers::Refusal;
 
-// A run's settings, floats by their bits.
+// A run's settings, floats by their bits: a type of its own beside rows' Settings, so that nobody takes a pattern for a number.
 #[derive(Clone, Copy)]
 pub struct SettingBits {
     pub limit: u32,

@@ -4,7 +4,7 @@ use native.Mathlib.Omega.{arith}
 use mathlib.Core.Path.{◌≡◌, refl, sym, ◌∙◌}
 use mathlib.Core.Bool.{true}
 use borrow.Author.Tests.{lt-ltb}
-use lib.Ieee.{Float, nan, inf, fin, Format, hid, ones, top, is_nan, of_bits, of_fields, odd, div, binary32, round}
+use lib.Ieee.{Float, nan, inf, fin, Format, hid, ones, top, is_nan, of_bits, of_fields, odd, binary32, round}
 use lib.Ieee.Bits.{nan_bits_is, nan_bits_above}
 use Rattle.numbers.specs.Notation.{num, ratio}
 use Rattle.job_terms.specs.Terms.{settings_as}
@@ -18,8 +18,8 @@ nan_of f n h = sym (go (of_bits f n) (sym (nan_bits_is f n) ∙ (nan_bits_above 
     go (inf s) e = absurd (let y : ◌≡◌ {A = ℕ} 0 1 = cc in omega arith)
     go (fin s m k) e = absurd (let y : ◌≡◌ {A = ℕ} 0 1 = cc in omega arith)
 
-pub nan32 : div binary32 (of_bits binary32 0) (of_bits binary32 0) ≡ nan
-unfolding div of_bits of_fields odd
+pub nan32 : of_bits binary32 2143289344 ≡ nan
+unfolding of_bits of_fields odd
 nan32 = refl
 
 -- each setting is the job's own: limit 3, tolerances 1 and 2, damping 4

@@ -11,12 +11,13 @@ use job::SettingBits;
 use printable::Printable;
 use rows::Settings;
 
-// The float of a pattern, of every one: a NaN's pattern gives a NaN.
+// The float of a pattern, of every one: a NaN's pattern gives a NaN. (`double_of` of join_job does the same of the other format: a trait over the two would
+// hold just these two bodies.)
 pub fn single_of(bits: u32) -> f32
     ensures { result ≡ of_bits binary32 bits }
 {
     if 0x7f80_0000 < bits % 0x8000_0000 {
-        return 0.0 / 0.0;
+        return f32::NAN;
     }
     f32::from_bits(bits)
 }

@@ -11,7 +11,8 @@ ghost use Rattle.job.specs.Format.{space, job_of, size_of, read_at_most};
 ghost use Rattle.printable.specs.declared.Printable.TheVariants as printable;
 ghost use Rattle.line.specs.Text.{ascii, line_of};
 ghost use Rattle.line.specs.FloatText.{float_text};
-ghost use Rattle.join_job.specs.Joining.{patterns, ran_over, run_of, judged_over, judged_of, joined_with, joined_into};
+ghost use Rattle.join_job.specs.Lent.{run_in, space_in};
+ghost use Rattle.join_job.specs.Joining.{patterns, run_of, judged_over, judged_of, joined_with, joined_into};
 ghost use Rattle.join_job.specs.Joining.{report_of, report_text, printable_text, second_text, small_room, full_room};
 
 use job::SettingBits;
@@ -31,7 +32,7 @@ pub struct Report {
     pub printable: Printable,
 }
 
-// What is said of a job, or why it was turned down; and how many bytes the joined job has, 0 where there is none.
+// What is said of a job, or why it was turned down; and how many bytes the joined job has, 0 where there is none: `join` promises both.
 #[derive(Clone, Copy)]
 pub struct Joining {
     pub report: Result<Report, Refusal>,
@@ -79,26 +80,29 @@ fn blank<T: Copy, const N: usize>(zero: T) -> [T; N]
 
 // ---- the run
 
+// A job's settings and numbers, the poses and edges as patterns or as floats.
+#[derive(Clone, Copy)]
+struct Numbers<'a, P, E> {
+    settings: SettingBits,
+    poses: &'a [P],
+    ends: &'a [u32],
+    edges: &'a [E],
+    fixed: &'a [u32],
+}
+
 // The run over work of its own: for 64 free poses with six degrees of freedom, and for 256 poses.
-fn run_over(
-    t: SettingBits,
-    poses: &[f64],
-    ends: &[u32],
-    edges: &[f32],
-    fixed: &[u32],
-    out: &mut [f64],
-) -> Result<Joined, Refusal>
-    ensures value { result ≡ (ran_over t poses.now ends.now edges.now fixed.now out.old).answer }
-    ensures out_value { out.new ≡ (ran_over t poses.now ends.now edges.now fixed.now out.old).out }
+fn run_over(j: Numbers<'_, f64, f32>, out: &mut [f64]) -> Result<Joined, Refusal>
+    ensures value { result ≡ (run_in j.entry out.old).answer }
+    ensures out_value { out.new ≡ (run_in j.entry out.old).out }
 {
     let mut work32 = [0.0f32; 148608];
     let mut work64 = [0.0f64; 6144];
     sparse_pgo::optimize(
-        poses,
-        ends,
-        edges,
-        fixed,
-        job_terms::settings_of(t),
+        j.poses,
+        j.ends,
+        j.edges,
+        j.fixed,
+        job_terms::settings_of(j.settings),
         &mut work32,
         &mut work64,
         out,
@@ -106,46 +110,47 @@ fn run_over(
 }
 
 // The run, and whether what came out may be printed.
-fn judge_over(
-    t: SettingBits,
-    poses: &[f64],
-    ends: &[u32],
-    edges: &[f32],
-    fixed: &[u32],
-    out: &mut [f64],
-) -> Result<(Joined, Printable), Refusal>
-    ensures value { result ≡ judged_over t poses.now ends.now edges.now fixed.now out.old }
-    ensures out_value { out.new ≡ (ran_over t poses.now ends.now edges.now fixed.now out.old).out }
+fn judge_over(j: Numbers<'_, f64, f32>, out: &mut [f64]) -> Result<(Joined, Printable), Refusal>
+    ensures value { result ≡ judged_over j.entry.settings j.entry.poses.now j.entry.ends.now j.entry.edges.now j.entry.fixed.now out.old }
+    ensures out_value { out.new ≡ (run_in j.entry out.old).out }
 {
-    let j = run_over(t, poses, ends, edges, fixed, out)?;
-    let p = job_terms::printable_after(j.converged, j.iterations, t.limit, poses, ends, edges, out);
-    Ok((j, p))
+    let joined = run_over(j, out)?;
+    let p = job_terms::printable_after(
+        joined.converged,
+        joined.iterations,
+        j.settings.limit,
+        j.poses,
+        j.ends,
+        j.edges,
+        out,
+    );
+    Ok((joined, p))
 }
 
 // The run of what was read; the new poses' bits where it succeeds.
-fn run_job(
-    t: SettingBits,
-    poses: &[u64],
-    ends: &[u32],
-    edges: &[u32],
-    fixed: &[u32],
-    new: &mut [u64],
-) -> Result<(Joined, Printable), Refusal>
-    requires { (length poses.now ≤ 3072) × (length edges.now ≤ 8192) × (length new.old ≡ length poses.now) }
-    ensures value { result ≡ judged_of t (space poses.now ends.now edges.now fixed.now) }
-    ensures value_2 { new.new ≡ patterns binary64 (run_of t (space poses.now ends.now edges.now fixed.now)).out }
+fn run_job(j: Numbers<'_, u64, u32>, new: &mut [u64]) -> Result<(Joined, Printable), Refusal>
+    requires { (length j.poses.now ≤ 3072) × (length j.edges.now ≤ 8192) × (length new.old ≡ length j.poses.now) }
+    ensures value { result ≡ judged_of j.entry.settings (space_in j.entry) }
+    ensures value_2 { new.new ≡ patterns binary64 (run_of j.entry.settings (space_in j.entry)).out }
 {
-    let n = poses.len();
+    let n = j.poses.len();
     // 256 poses and 1,024 edges.
     let mut doubles = blank::<f64, 3072>(0.0);
     let doubled = &mut doubles[..n];
-    convert(poses, doubled, double_of);
+    convert(j.poses, doubled, double_of);
     let mut singles = blank::<f32, 8192>(0.0);
-    let singled = &mut singles[..edges.len()];
-    convert(edges, singled, job_terms::single_of);
+    let singled = &mut singles[..j.edges.len()];
+    convert(j.edges, singled, job_terms::single_of);
     let mut zeros = blank::<f64, 3072>(0.0);
     let out = &mut zeros[..n];
-    let a = judge_over(t, doubled, ends, singled, fixed, out);
+    let floats = Numbers {
+        settings: j.settings,
+        poses: doubled,
+        ends: j.ends,
+        edges: singled,
+        fixed: j.fixed,
+    };
+    let a = judge_over(floats, out);
     convert(out, new, bits_of);
     a
 }
@@ -160,22 +165,13 @@ fn refused(r: Refusal) -> Joining
 }
 
 // Runs what was read, and writes the job with the new poses.
-fn join_read(
-    t: SettingBits,
-    had: Tally,
-    poses: &[u64],
-    ends: &[u32],
-    edges: &[u32],
-    fixed: &[u32],
-    out: &mut [u8],
-) -> Joining
-    requires { (length poses.now ≤ 3072) × (length edges.now ≤ 8192) }
-    ensures { (result.report, result.bytes, out.new) ≡
-        joined_with had (job_of t (space poses.now ends.now edges.now fixed.now)) out.old }
+fn join_read(j: Numbers<'_, u64, u32>, had: Tally, out: &mut [u8]) -> Joining
+    requires { (length j.poses.now ≤ 3072) × (length j.edges.now ≤ 8192) }
+    ensures { (result.report, result.bytes, out.new) ≡ joined_with had (job_of j.entry.settings (space_in j.entry)) out.old }
 {
     let mut room = blank::<u64, 3072>(0);
-    let new = &mut room[..poses.len()];
-    let a = run_job(t, poses, ends, edges, fixed, new);
+    let new = &mut room[..j.poses.len()];
+    let a = run_job(j, new);
     let (run, printable) = match a {
         Ok(judged) => judged,
         Err(r) => return refused(r),
@@ -187,7 +183,7 @@ fn join_read(
         converged: run.converged,
         printable,
     };
-    match job::write_job(t, new, ends, edges, fixed, out) {
+    match job::write_job(j.settings, new, j.ends, j.edges, j.fixed, out) {
         Ok(bytes) => Joining {
             report: Ok(report),
             bytes,
@@ -197,33 +193,21 @@ fn join_read(
 }
 
 // The same of numbers that stand at the start of larger arrays.
-fn join_front(
-    t: SettingBits,
-    had: Tally,
-    poses: &[u64],
-    ends: &[u32],
-    edges: &[u32],
-    fixed: &[u32],
-    out: &mut [u8],
-) -> Joining
+fn join_front(j: Numbers<'_, u64, u32>, had: Tally, out: &mut [u8]) -> Joining
     requires poses_bound { (had.poses ≤ 256) × (had.edges ≤ 1024) × (had.fixed ≤ 256) }
-    requires poses_len { (length poses.now ≡ 3072) × (length ends.now ≡ 2048) × (length edges.now ≡ 8192) × (length fixed.now ≡ 256) }
-    ensures { (result.report, result.bytes, out.new) ≡ joined_with had (job_of t (space (take (12 * had.poses) poses.now)
-        (take (2 * had.edges) ends.now) (take (8 * had.edges) edges.now) (take had.fixed fixed.now))) out.old }
+    requires poses_len { (length j.poses.now ≡ 3072) × (length j.ends.now ≡ 2048) × (length j.edges.now ≡ 8192) × (length j.fixed.now ≡ 256) }
+    ensures { (result.report, result.bytes, out.new) ≡ joined_with had (job_of j.entry.settings
+        (space (take (12 * had.poses) j.entry.poses.now) (take (2 * had.edges) j.entry.ends.now)
+        (take (8 * had.edges) j.entry.edges.now) (take had.fixed j.entry.fixed.now))) out.old }
 {
-    let p = 12 * had.poses;
-    let e = 2 * had.edges;
-    let g = 8 * had.edges;
-    let f = had.fixed;
-    join_read(
-        t,
-        had,
-        &poses[..p],
-        &ends[..e],
-        &edges[..g],
-        &fixed[..f],
-        out,
-    )
+    let front = Numbers {
+        settings: j.settings,
+        poses: &j.poses[..12 * had.poses],
+        ends: &j.ends[..2 * had.edges],
+        edges: &j.edges[..8 * had.edges],
+        fixed: &j.fixed[..had.fixed],
+    };
+    join_read(front, had, out)
 }
 
 // A job of at most so many poses, edges and fixed entries.
@@ -248,11 +232,20 @@ fn join_within(room: Tally, bytes: &[u8], out: &mut [u8]) -> Joining
         &mut fixed[..f],
     ) {
         Err(r) => refused(r),
-        Ok((t, had)) => join_front(t, had, &poses, &ends, &edges, &fixed, out),
+        Ok((settings, had)) => {
+            let read = Numbers {
+                settings,
+                poses: &poses,
+                ends: &ends,
+                edges: &edges,
+                fixed: &fixed,
+            };
+            join_front(read, had, out)
+        }
     }
 }
 
-// At document 01's limits: the joined job goes to the start of out.
+// At document 01's limits: the joined job goes to the start of out. (`join` and `join_small` are public names, each one call of what they share.)
 pub fn join(bytes: &[u8], out: &mut [u8]) -> Joining
     ensures out_value { (result.report, result.bytes, out.new) ≡ joined_into full_room bytes.now out.old }
     ensures prefix_len { IsPrefixLen result.bytes out.new }

@@ -8,7 +8,7 @@ ghost use Rattle.normal_system.specs.NormalSystem.{assembling, system_of};
 ghost use Rattle.normal_system.specs.forms.Building.{built_out, built_number};
 
 use assembly::AssemblyError;
-use graph::Manifold;
+use graph::{LentLinks, Manifold};
 use rows::Room;
 
 // The answer of an assembly alone: 0, or the row that refuses it.
@@ -25,26 +25,15 @@ fn built_number(a: Result<(), AssemblyError>) -> u32
 fn build_over(
     m: Manifold,
     poses: &[f64],
-    ends: &[u32],
-    edges: &[f32],
-    blocks: &[u32; 256],
-    free: u32,
+    links: LentLinks<'_>,
     system: &mut [f32],
     work: &mut [f32],
 ) -> u32
-    requires { (length work.old ≡ need (dof_of m * free)) × (length work.old ≤ length system.old) }
-    ensures { (result, work.new) ≡ built_out m poses.now ends.now edges.now blocks.now free work.old }
+    requires { (length work.old ≡ need (dof_of m * links.free)) × (length work.old ≤ length system.old) }
+    ensures { (result, work.new) ≡ built_out m poses.now links.entry work.old }
 {
     let count = work.len();
-    let made = assembly::build_normal_system_with_mapping(
-        &mut system[..count],
-        m,
-        poses,
-        ends,
-        edges,
-        blocks,
-        free,
-    );
+    let made = assembly::build_normal_system_with_mapping(&mut system[..count], m, poses, links);
     let row = built_number(made);
     if row != 0 {
         return row;
@@ -53,6 +42,7 @@ fn build_over(
     0
 }
 
+// The lent work is just as long as the system, to which `assemble_alone` cuts it once; only the three functions here say so.
 // Scratch is cleared before it is used, and that takes time: so there are three sizes. The first two are those of an evening's fifty views, one of them fixed.
 
 // Fifty views with gravity.
@@ -68,38 +58,27 @@ const MOST: usize = 384 * (384 + 3);
 fn build_sized<const N: usize>(
     m: Manifold,
     poses: &[f64],
-    ends: &[u32],
-    edges: &[f32],
-    blocks: &[u32; 256],
-    free: u32,
+    links: LentLinks<'_>,
     work: &mut [f32],
 ) -> u32
-    requires { (length work.old ≡ need (dof_of m * free)) × (length work.old ≤ N) × (N ≤ 148608) }
-    ensures { (result, work.new) ≡ built_out m poses.now ends.now edges.now blocks.now free work.old }
+    requires { (length work.old ≡ need (dof_of m * links.free)) × (length work.old ≤ N) × (N ≤ 148608) }
+    ensures { (result, work.new) ≡ built_out m poses.now links.entry work.old }
 {
     let mut system = [0.0f32; N];
-    build_over(m, poses, ends, edges, blocks, free, &mut system, work)
+    build_over(m, poses, links, &mut system, work)
 }
 
-fn build(
-    m: Manifold,
-    poses: &[f64],
-    ends: &[u32],
-    edges: &[f32],
-    blocks: &[u32; 256],
-    free: u32,
-    work: &mut [f32],
-) -> u32
-    requires { (length work.old ≡ need (dof_of m * free)) × (length work.old ≤ 148608) }
-    ensures { (result, work.new) ≡ built_out m poses.now ends.now edges.now blocks.now free work.old }
+fn build(m: Manifold, poses: &[f64], links: LentLinks<'_>, work: &mut [f32]) -> u32
+    requires { (length work.old ≡ need (dof_of m * links.free)) × (length work.old ≤ 148608) }
+    ensures { (result, work.new) ≡ built_out m poses.now links.entry work.old }
 {
     if work.len() <= FIFTY_WITH_GRAVITY {
-        return build_sized::<FIFTY_WITH_GRAVITY>(m, poses, ends, edges, blocks, free, work);
+        return build_sized::<FIFTY_WITH_GRAVITY>(m, poses, links, work);
     }
     if work.len() <= FIFTY {
-        return build_sized::<FIFTY>(m, poses, ends, edges, blocks, free, work);
+        return build_sized::<FIFTY>(m, poses, links, work);
     }
-    build_sized::<MOST>(m, poses, ends, edges, blocks, free, work)
+    build_sized::<MOST>(m, poses, links, work)
 }
 
 // The number of the row that refuses, or 0, since C is told just that (`pgo_assemble`, its one caller): H and gradient in the first n (n + 3) numbers of the
@@ -127,13 +106,16 @@ pub fn assemble_alone(
         Ok(c) => {
             let n = graph::dof(m) * (c.free as usize);
             let count = n * (n + 3);
+            let links = LentLinks {
+                ends,
+                edges,
+                blocks: &blocks,
+                free: c.free,
+            };
             build(
                 retraction::unit_manifold(m),
                 poses,
-                ends,
-                edges,
-                &blocks,
-                c.free,
+                links,
                 &mut work[..count],
             )
         }

@@ -38,7 +38,7 @@ pub enum Printable {
     LastWorse(f64, f64),
 }
 
-// ---- edges
+// ---- edges: of one graph at two lists of poses, so that poses, ends and edges are no one thing here
 
 fn weighted_edge_residual(
     poses: &[f64],
@@ -130,6 +130,7 @@ fn gravity_cosine(g: Vec3<f64>, before: Pose, after: Pose) -> f64
     rotations::dot_of(a, b)
 }
 
+// Not `f64::min`, which would pass over a NaN of the other side.
 fn smaller(cosine: f64, least: f64) -> f64
     ensures { result ≡ if_then (lt cosine least) cosine least }
 {

@@ -30,7 +30,7 @@ fn delta_at(b: &[u8], at: usize, n: usize) -> [f32; 6] {
     array::from_fn(|j| if j < n { f32::read(b, at, j) } else { 0.0 })
 }
 
-// ---- comparing: a status of 0, then the numbers
+// ---- comparing: a status of 0, then the numbers, from a fixed place of a record on
 
 fn answers<T: Recorded>(xs: &[T], b: &[u8], at: usize) -> bool
     requires { at < 4096 }

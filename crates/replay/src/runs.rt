@@ -8,6 +8,8 @@ use decisions::Why;
 use numbers::Refusal;
 use sparse_pgo::Joined;
 
+// Its own numbers, not telling's: the stored list's form is fixed apart from the C interface's.
+
 // What the output holds before a run.
 const STALE: f64 = 0.5;
 

@@ -4,6 +4,7 @@ ghost use Rattle.std.specs.Prelude.{◌≤◌};
 use crate::bytes::Recorded;
 use crate::{bytes, inputs};
 use assembly::AssemblyError;
+use graph::LentLinks;
 use rows::Room;
 use solve::SolveError;
 
@@ -38,8 +39,14 @@ pub fn same_assembly(b: &[u8], poses: &[f64], ends: &[u32], edges: &[f32], fixed
             let mut work = [0.0f32; 4096];
             let w32 = &mut work[..w];
             let unit = retraction::unit_manifold(m);
+            let links = LentLinks {
+                ends,
+                edges,
+                blocks: &blocks,
+                free: c.free,
+            };
             let number = assembled(assembly::build_normal_system_with_mapping(
-                w32, unit, poses, ends, edges, &blocks, c.free,
+                w32, unit, poses, links,
             ));
             number == u32::read(b, end, 0) && (number != 0 || bytes::same(w32, b, end + 8))
         }

@@ -105,9 +105,6 @@ root_same_nan f nan e = root_nan f nan refl
 root_same_nan f (inf s) e = absurd (true≢false (sym e))
 root_same_nan f (fin s m k) e = absurd (true≢false (sym e))
 
-pub no_nan_by : (x : Float) (r : Bool) → r ≡ is_nan x → r ≡ false → T (not (is_nan x))
-no_nan_by x r e h = subst (λ (b : Bool). T (not b)) (sym h ∙ e) tt
-
 -- `(0 < b) & (b < t)` is true
 pub in_range : (b t : ℕ) → (ltb 0 b && ltb b t) ≡ true → (0 < b) × (b < t)
 in_range b t h = (ltb-true 0 b (and_first (ltb 0 b) (ltb b t) h), ltb-true b t (and_second (ltb 0 b) (ltb b t) h))

@@ -7,6 +7,8 @@ ghost use Rattle.std.specs.Float.Ieee.{prec, emax, low, ones, of_fields};
 ghost use Rattle.std.specs.Float.Ieee.Exact.{HasValue};
 ghost use Rattle.roots.specs.Roots.{rooted, NearestRoot};
 
+// Bounds such as m < 2^54 are of plain numbers at each step; a struct would be wrapped and unwrapped at each, and say no more.
+
 // A root in digits: q is the whole part of the root of q * q + rest.
 #[derive(Clone, Copy)]
 struct Root {

@@ -45,10 +45,10 @@ fn narrow_bits(mag: u64) -> u32
 pub fn narrow(x: f64) -> f32
     ensures { result ≡ rounded binary32 x }
 {
-    if x != x {
-        return 0.0f32 / 0.0f32;
+    if x.is_nan() {
+        return f32::NAN;
     }
-    let b: u64 = f64::to_bits(x);
+    let b = x.to_bits();
     let sign = (b >> 63) as u32;
     let mag = narrow_bits(b & 0x7fff_ffff_ffff_ffff);
     f32::from_bits((sign << 31) + mag)
@@ -62,10 +62,10 @@ const IN_PLACE: u64 = 0x0fdf_ffff_f000_0000;
 pub fn round32(x: f64) -> f64
     ensures { result ≡ rounded binary32 x }
 {
-    if x != x {
-        return 0.0f64 / 0.0f64;
+    if x.is_nan() {
+        return f64::NAN;
     }
-    let b: u64 = f64::to_bits(x);
+    let b = x.to_bits();
     let mag = b & 0x7fff_ffff_ffff_ffff;
     // From 2^-126 up to where an infinity is nearest. As in `nearest_shift`, what is added carries just where the digits kept go up.
     if std::num::wrapping_sub_u64(mag, 0x3810_0000_0000_0000) < IN_PLACE {

@@ -30,7 +30,7 @@ pub struct Room {
     pub out: usize,
 }
 
-// ---- rows 1 to 5: the input as a whole
+// ---- rows 1 to 5: the input as a whole; what is asked of lists is their lengths, one by one as document 01 has them
 
 fn bad_gravity(m: Manifold) -> bool
     ensures { result ≡ bad_gravity m }

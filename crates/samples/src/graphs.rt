@@ -1,7 +1,7 @@
 // Graphs in which each pose comes from the one before by the same step.
 use rotations::{Mat3, Pose, Vec3};
 
-// A run takes as many as it wants.
+// Room for 66 poses and 65 edges; a run takes the first of each.
 #[derive(Clone, Copy)]
 pub struct Graph {
     pub poses: [[f64; 12]; 66],

@@ -18,6 +18,8 @@ const MOST_BUILT: usize = 1025;
 
 // ---- which keyframe an id means, by its number
 
+// That k is below 2^62 lets 2 k + 1 be worked out; it is a bound of an index, not a fact of a scan that a struct would keep.
+
 // The last of equal ids.
 fn node_of(ids: &[u32], id: usize) -> Option<usize>
     ensures { result ≡ node_of ids.now id }

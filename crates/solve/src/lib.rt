@@ -76,7 +76,7 @@ fn left_out(f: &[usize; 384], i: usize, s: f32, k: usize) -> bool
     i < profile::first_of(f, k) && s != 0.0
 }
 
-// ---- the factor and the substitutions
+// ---- the factor and the substitutions, entry by entry: that i is below n is each entry's own
 
 // A system of n unknowns in its work, and where its rows start.
 #[derive(Drop)]

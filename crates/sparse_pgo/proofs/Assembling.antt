@@ -87,9 +87,9 @@ module _ (setup : Setup) (w32 : List Float) {made : Result ⊤ AssemblyError} wh
 
 -- ---- and what an assembly is
 
-module _ {setup : Setup} (l : Links Edge) (poses w32 : List Float) {w32' : List Float} {made : Result ⊤ AssemblyError}
-    (lent : Sized setup × (length w32 ≡ need setup.n))
-    (h : (made, w32') ≡ assembled_of setup.manifold (dof_of setup.manifold * setup.free) l (pose_at poses) w32) where
+module _ {setup : Setup} {free : ℕ} (l : Links Edge) (poses w32 : List Float) {w32' : List Float} {made : Result ⊤ AssemblyError}
+    (lent : Sized setup free × (length w32 ≡ need setup.n))
+    (h : (made, w32') ≡ assembled_of setup.manifold (dof_of setup.manifold * free) l (pose_at poses) w32) where
   abbrev found : Ended (List Float)
   found = (parts_in setup l).assembled poses
 
@@ -101,13 +101,13 @@ module _ {setup : Setup} (l : Links Edge) (poses w32 : List Float) {w32' : List 
       ∙ whole_work setup.manifold setup.n l (pose_at poses) w32 lent.1
 
   -- what is neither system nor rest is +0
-  bare : Fits setup.manifold (dof_of setup.manifold * setup.free) l → work_after w32' setup.n nothing ≡ w32'
+  bare : Fits setup.manifold (dof_of setup.manifold * free) l → work_after w32' setup.n nothing ≡ w32'
   bare fits =
-      let n : dof_of setup.manifold * setup.free ≡ setup.n = sym lent.0.unknowns in
-      let room : need (dof_of setup.manifold * setup.free) ≤ length w32 = rw n (le_of_eq (sym lent.1)) in
-      let left : Clean (dof_of setup.manifold * setup.free) w32 w32'
-      = subst (Clean (dof_of setup.manifold * setup.free) w32) (ap (λ (z : Result ⊤ AssemblyError × List Float). z.1) (sym h)) (assembled_clean (dof_of setup.manifold * setup.free) w32 room setup.manifold l (pose_at poses) fits) in
-      ap (λ (k : ℕ). work_after w32' k nothing) (sym n) ∙ clean_after (dof_of setup.manifold * setup.free) w32 w32' left
+      let n : dof_of setup.manifold * free ≡ setup.n = sym lent.0.unknowns in
+      let room : need (dof_of setup.manifold * free) ≤ length w32 = rw n (le_of_eq (sym lent.1)) in
+      let left : Clean (dof_of setup.manifold * free) w32 w32'
+      = subst (Clean (dof_of setup.manifold * free) w32) (ap (λ (z : Result ⊤ AssemblyError × List Float). z.1) (sym h)) (assembled_clean (dof_of setup.manifold * free) w32 room setup.manifold l (pose_at poses) fits) in
+      ap (λ (k : ℕ). work_after w32' k nothing) (sym n) ∙ clean_after (dof_of setup.manifold * free) w32 w32' left
 
   module _ (long : length w32' ≡ length w32) {a : Assembly} (q : a ≡ assembly_in setup made w32') where
     sized : length w32' ≡ need setup.n
@@ -132,7 +132,7 @@ module _ {setup : Setup} (l : Links Edge) (poses w32 : List Float) {w32' : List 
     steep (Err assembly_error.Short) e c b = let z : ◌≡◌ {A = ℕ} 0 1 = cc in absurd (omega arith)
     steep (Err (assembly_error.BadEdge k why)) e c b = let z : ◌≡◌ {A = ℕ} 0 1 = cc in absurd (omega arith)
 
-    pub assembled_made : Fits setup.manifold (dof_of setup.manifold * setup.free) l → Made setup l poses a w32'
+    pub assembled_made : Fits setup.manifold (dof_of setup.manifold * free) l → Made setup l poses a w32'
     assembled_made fits =
         record {
           long = sized;

@@ -60,8 +60,8 @@ module _ (w : List Float) (n : ℕ) (d : Float) (long : need n ≤ length w) whe
   none_failed : (solved_as w n d ≡ Ok tt → ⊥) → solved_as w n d ≡ Err solve_error.Failed
   none_failed e = answer_is w n d long ∙ sym (left (Ok tt) (solved_none e) refl)
 
-module _ {setup : Setup} {l : Links Edge} (st : State) {w32 w32' before : List Float} {answer : Result ⊤ SolveError}
-    (lent : Lent setup w32 before) (h : Holds setup l (held_in setup before) w32)
+module _ {setup : Setup} {free : ℕ} {l : Links Edge} (st : State) {w32 w32' before : List Float} {answer : Result ⊤ SolveError}
+    (lent : Lent setup free w32 before) (h : Holds setup l (held_in setup before) w32)
     (s : (answer ≡ solved_as w32 setup.n st.damping) × (w32' ≡ solves.leaves w32 setup.n st.damping (solved_as w32 setup.n st.damping))) where
   abbrev damping : Float
   damping = st.damping
@@ -108,7 +108,7 @@ module _ {setup : Setup} {l : Links Edge} (st : State) {w32 w32' before : List F
     attempt_failed k = record { answer = rw (h.is_system, unsolvable); held = refl; holds = still nothing left_so; long = k }
 
   -- a step, and its trial
-  module _ (some : answer ≡ Ok tt) (sized : length w32' ≡ need setup.n) (below : (p b : ℕ) → l.slot p ≡ Some b → b < setup.free) where
+  module _ (some : answer ≡ Ok tt) (sized : length w32' ≡ need setup.n) (below : (p b : ℕ) → l.slot p ≡ Some b → b < free) where
     can : is_solvable ≡ true
     can = solved_step h.system n damping long (sym said ∙ some)
 
@@ -134,10 +134,10 @@ module _ {setup : Setup} {l : Links Edge} (st : State) {w32 w32' before : List F
         ap (norm_of δ') (length_part (n * n + n + n) w32' ∙ o) ∙ norm_same δ' δ n reads
 
     moves_are : moves setup.manifold l.slot setup.poses (held_in setup before) δ' ≡ moves setup.manifold l.slot setup.poses (held_in setup before) δ
-    moves_are = moves_same setup.manifold l.slot setup.free n δ' δ lent.sized.unknowns below reads setup.poses (held_in setup before)
+    moves_are = moves_same setup.manifold l.slot free n δ' δ lent.sized.unknowns below reads setup.poses (held_in setup before)
 
     moved_are : moved_numbers setup.manifold l.slot (held_in setup before) δ' ≡ moved_numbers setup.manifold l.slot (held_in setup before) δ
-    moved_are = moved_same setup.manifold l.slot setup.free n δ' δ lent.sized.unknowns below reads (held_in setup before)
+    moved_are = moved_same setup.manifold l.slot free n δ' δ lent.sized.unknowns below reads (held_in setup before)
 
     -- what is tried is what the run's numerics say
     raw_is : (numerics (parts_in setup l)).attempt (held_in setup before) damping

@@ -32,7 +32,7 @@ use Rattle.sparse_pgo.specs.Parts.{Parts, Whole, whole}
 use Rattle.sparse_pgo.specs.Numerics.{parts_on, parts_of}
 use Rattle.slices.specs.Slices.{zeroed}
 use Rattle.sparse_pgo.specs.Optimize.{after_checks, given, ran, optimized}
-use Rattle.sparse_pgo.specs.forms.Turns.{parts_in, links_in, Lent, Startable, Begun}
+use Rattle.sparse_pgo.specs.forms.Turns.{parts_in, Lent, Startable, Begun}
 use Rattle.checks.proofs.Slots.{links_same}
 
 -- ---- an input that passes the checks, with what they handed on and its degrees of freedom
@@ -98,7 +98,7 @@ module _ (manifold : Manifold) (poses : List Float) (ends : List ℕ) (edges : L
   -- passed: the setup, with gravity of unit length
   module _ (r : Checks) (c : Counts) (dof : ℕ) (f : Fitted lent_input r c dof) (unit : Manifold) (u : unit ≡ unit_of manifold) where
     abbrev setup : Setup
-    setup = record { manifold = unit; n = dof * c.free; poses = c.poses; free = c.free; settings = settings }
+    setup = record { manifold = unit; n = dof * c.free; poses = c.poses; settings = settings }
 
     abbrev g : Graph Pose Edge
     g = graph_of lent_input
@@ -111,7 +111,7 @@ module _ (manifold : Manifold) (poses : List Float) (ends : List ℕ) (edges : L
         go Se3 = refl
         go (Gravity v) = refl
 
-    pub run_lent : Lent setup (take (dof * c.free * (dof * c.free + 3)) work32) (take (24 * c.poses) work64)
+    pub run_lent : Lent setup c.free (take (dof * c.free * (dof * c.free + 3)) work32) (take (24 * c.poses) work64)
     run_lent =
         record {
           sized = record { unknowns = ap (λ (z : ℕ). z * c.free) (f.dof_is ∙ sym unit_dof ∙ ap dof_of (sym u)); few = few f; poses = poses_most f };
@@ -125,16 +125,16 @@ module _ (manifold : Manifold) (poses : List Float) (ends : List ℕ) (edges : L
         record { limited = p.most_limit; number = p.damping_finite; positive = p.damping_above; bounded = p.damping_most }
 
     -- its parts are the graph's
-    links_are : links_in setup ends edges r.blocks ≡ links_of g
+    links_are : lent_links ends edges r.blocks c.free ≡ links_of g
     links_are = ap₂ (λ (b : List ℕ) (k : ℕ). lent_links ends edges b k) f.blocks_are f.free_are ∙ links_same lent_input f.passed.graph
 
-    parts_are : parts_in setup (links_in setup ends edges r.blocks) ≡ parts_of (unit_of manifold) settings g
+    parts_are : parts_in setup (lent_links ends edges r.blocks c.free) ≡ parts_of (unit_of manifold) settings g
     parts_are =
-        ap (λ (m : Manifold). parts_on m (dof * c.free) c.poses settings (links_in setup ends edges r.blocks)) u
-        ∙ ap (λ (n : ℕ). parts_on (unit_of manifold) n c.poses settings (links_in setup ends edges r.blocks)) (n_is f ∙ ap (λ (z : ℕ). z * free_count g) (sym unit_dof))
+        ap (λ (m : Manifold). parts_on m (dof * c.free) c.poses settings (lent_links ends edges r.blocks c.free)) u
+        ∙ ap (λ (n : ℕ). parts_on (unit_of manifold) n c.poses settings (lent_links ends edges r.blocks c.free)) (n_is f ∙ ap (λ (z : ℕ). z * free_count g) (sym unit_dof))
         ∙ ap₂ (λ (k : ℕ) (l : Links Edge). parts_on (unit_of manifold) (dof_of (unit_of manifold) * free_count g) k settings l) f.poses_are links_are
 
-    ran_is : whole (parts_in setup (links_in setup ends edges r.blocks)) settings poses ≡ ran lent_input
+    ran_is : whole (parts_in setup (lent_links ends edges r.blocks c.free)) settings poses ≡ ran lent_input
     unfolding ran
     ran_is = ap (λ (p : Parts (List Float) (List Float) (ℕ → Float)). whole p settings poses) parts_are
 
@@ -142,7 +142,7 @@ module _ (manifold : Manifold) (poses : List Float) (ends : List ℕ) (edges : L
     cleared n k w last h z t = ap (λ (v : List Float). v ++ drop n w) (z ∙ ap (λ (j : ℕ). replicate j (num 0)) (length-take-le n w h)) ∙ ap (λ (j : ℕ). zeroed j w) t
 
     pub run_fit : (a : Result Joined Refusal) (last32 last64 lastOut : List Float)
-        → Begun setup (links_in setup ends edges r.blocks) poses (take (dof * c.free * (dof * c.free + 3)) work32) (take (24 * c.poses) work64) out a last32 last64 lastOut
+        → Begun setup (lent_links ends edges r.blocks c.free) poses (take (dof * c.free * (dof * c.free + 3)) work32) (take (24 * c.poses) work64) out a last32 last64 lastOut
         → record { answer = a; work32 = last32 ++ drop (dof * c.free * (dof * c.free + 3)) work32; work64 = last64 ++ drop (24 * c.poses) work64; out = lastOut }
         ≡ optimized lent_input work32 work64 out
     unfolding optimized

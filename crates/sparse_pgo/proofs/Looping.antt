@@ -52,14 +52,14 @@ pub record Iterated (setup : Setup) (l : Links Edge) (cost : Float) (before : Li
 -- ---- the loop's invariant: the lent work is as long as needed; the system stands in it where it is not to be assembled; and the whole run is what is left of it
 -- from here
 
-pub record Turning (setup : Setup) (l : Links Edge) (cost : Float) (first w32 w64 : List Float) (s : State) : Type 0 where
-  pub lent : Lent setup w32 w64
+pub record Turning (setup : Setup) (free : ℕ) (l : Links Edge) (cost : Float) (first w32 w64 : List Float) (s : State) : Type 0 where
+  pub lent : Lent setup free w32 w64
   pub holds : AtTop setup l s (held_in setup w64) w32
   pub going : Going (numerics (parts_in setup l)) setup.settings.limit setup.settings.cost_tolerance cost setup.settings.damping (held_in setup first) s (held_in setup w64)
 
-pub turning_begin : {setup : Setup} {l : Links Edge} {cost : Float} {w32 w64 : List Float} {s : State} → s ≡ begun cost setup.settings.damping → Lent setup w32 w64 → Startable setup
-    → T (fits binary32 setup.settings.damping) → Turning setup l cost w64 w32 w64 s
-turning_begin {setup} {l} {cost} {w32} {w64} {s} e lent start f =
+pub turning_begin : {setup : Setup} {free : ℕ} {l : Links Edge} {cost : Float} {w32 w64 : List Float} {s : State} → s ≡ begun cost setup.settings.damping → Lent setup free w32 w64 → Startable setup
+    → T (fits binary32 setup.settings.damping) → Turning setup free l cost w64 w32 w64 s
+turning_begin {setup} {free} {l} {cost} {w32} {w64} {s} e lent start f =
     record {
       lent = lent;
       holds = λ q. absurd (subst T (sym (ap (λ (z : State). z.fresh) e) ∙ q) tt);
@@ -69,7 +69,7 @@ turning_begin {setup} {l} {cost} {w32} {w64} {s} e lent start f =
           start.limited f start.positive (not_above setup.settings.damping start.positive start.bounded));
     }
 
-module _ {setup : Setup} {l : Links Edge} {cost : Float} {first w32 w64 : List Float} {s : State} (g : Turning setup l cost first w32 w64 s) where
+module _ {setup : Setup} {free : ℕ} {l : Links Edge} {cost : Float} {first w32 w64 : List Float} {s : State} (g : Turning setup free l cost first w32 w64 s) where
   abbrev limit : ℕ
   limit = setup.settings.limit
 
@@ -92,7 +92,7 @@ module _ {setup : Setup} {l : Links Edge} {cost : Float} {first w32 w64 : List F
     held_then_lem t e = h.held ∙ ap (λ (z : State). moved_on s z ((numerics (parts_in setup l)).moved (held_in setup w64) s.damping) (held_in setup w64)) e
 
     module _ {t : State} (e : r ≡ next.On t) where
-      pub turning_on : length w64' ≡ length w64 → Turning setup l cost first w32' w64' t
+      pub turning_on : length w64' ≡ length w64 → Turning setup free l cost first w32' w64' t
       turning_on k =
           record {
             lent = record { sized = g.lent.sized; single = h.long; double = k ∙ g.lent.double };

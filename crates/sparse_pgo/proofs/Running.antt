@@ -100,7 +100,7 @@ copied_in setup poses w64 y double size e =
     }
 
 module _ {setup : Setup} {poses w64 in64 : List Float} (h : CopiedIn setup poses w64 in64) where
-  pub in_lent : {w32 : List Float} → Lent setup w32 w64 → Lent setup w32 in64
+  pub in_lent : {free : ℕ} {w32 : List Float} → Lent setup free w32 w64 → Lent setup free w32 in64
   in_lent lent = record { sized = lent.sized; single = lent.single; double = h.long ∙ lent.double }
 
   module _ {l : Links Edge} {a : Result Joined Refusal} {mid64 : List Float} (s : Started setup l in64 a mid64) (l64 : length mid64 ≡ length in64)

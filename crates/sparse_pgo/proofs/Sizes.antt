@@ -15,33 +15,35 @@ use Rattle.profile.specs.Layout.{need}
 use Rattle.sparse_pgo.specs.declared.Setup.{Setup}
 use Rattle.sparse_pgo.specs.forms.Turns.{Sized}
 
-module _ {setup : Setup} (s : Sized setup) where
-  n_most : setup.n ≤ 384
-  n_most = let h : dof_of setup.manifold * setup.free ≤ 384 = mul-le-mul (dof_most setup.manifold) s.few in omega (arith, s.unknowns)
-
-  square_most : setup.n * setup.n ≤ 147456
-  square_most = mul-le-mul n_most n_most
-
-  pub rows_fit : Fits w64 (setup.n * setup.n)
-  rows_fit = omega (arith, square_most)
-
-  pub gradient_fits : Fits w64 (setup.n * setup.n + setup.n)
-  gradient_fits = omega (arith, square_most, n_most)
-
-  pub step_fits : Fits w64 (setup.n * setup.n + setup.n + setup.n)
-  step_fits = omega (arith, square_most, n_most)
-
-  pub gradient_bytes : Fits w64 ((setup.n * setup.n + setup.n) * 4)
-  gradient_bytes = omega (arith, square_most, n_most)
-
-  pub step_bytes : Fits w64 ((setup.n * setup.n + setup.n + setup.n) * 4)
-  step_bytes = omega (arith, square_most, n_most)
-
+module _ {setup : Setup} {free : ℕ} (s : Sized setup free) where
   pub half_fits : Fits w64 (setup.poses * 12)
   half_fits = omega (arith, s.poses)
 
   pub half_bytes : Fits w64 (setup.poses * 12 * 8)
   half_bytes = omega (arith, s.poses)
+
+  pub n_most : setup.n ≤ 384
+  n_most = let h : dof_of setup.manifold * free ≤ 384 = mul-le-mul (dof_most setup.manifold) s.few in omega (arith, s.unknowns)
+
+-- places in the work of n unknowns
+module _ {n : ℕ} (few : n ≤ 384) where
+  square_most : n * n ≤ 147456
+  square_most = mul-le-mul few few
+
+  pub rows_fit : Fits w64 (n * n)
+  rows_fit = omega (arith, square_most)
+
+  pub gradient_fits : Fits w64 (n * n + n)
+  gradient_fits = omega (arith, square_most, few)
+
+  pub step_fits : Fits w64 (n * n + n + n)
+  step_fits = omega (arith, square_most, few)
+
+  pub gradient_bytes : Fits w64 ((n * n + n) * 4)
+  gradient_bytes = omega (arith, square_most, few)
+
+  pub step_bytes : Fits w64 ((n * n + n + n) * 4)
+  step_bytes = omega (arith, square_most, few)
 
 -- the step stands within the work of a solve
 pub step_within : (n l : ℕ) → l ≡ need n → n * n + n + n ≤ l

@@ -2,17 +2,18 @@
 // poses, then the trial's. Nothing is allocated.
 #![tactic(auto)]
 
-ghost use Rattle.std.specs.Prelude.{◌≡◌, ◌*◌, ◌<◌, length};
+ghost use Rattle.std.specs.Prelude.{◌≡◌, ◌*◌, ◌<◌, ◌≤◌, length};
 ghost use Rattle.decisions.specs.Run.{iterations};
+ghost use Rattle.graph.specs.Lent.{links_lent};
 ghost use Rattle.profile.specs.Layout.{need};
 ghost use Rattle.sparse_pgo.specs.Parts.{has_converged, answer_after};
 ghost use Rattle.sparse_pgo.specs.Optimize.{optimized_on};
-ghost use Rattle.sparse_pgo.specs.forms.Turns.{links_in, held_in, Sized, Lent, Holds, AtTop, assembly_in};
+ghost use Rattle.sparse_pgo.specs.forms.Turns.{held_in, Sized, Lent, Holds, AtTop, assembly_in};
 ghost use Rattle.sparse_pgo.specs.forms.Turns.{PassedTop, Attempted, Turned, Startable, Started, Begun};
 
 use assembly::AssemblyError;
 use decisions::{Assembly, Next, Outcome, State, Why};
-use graph::Manifold;
+use graph::{LentLinks, Manifold};
 use numbers::Refusal;
 use rotations::Vec3;
 use rows::{Room, Settings};
@@ -36,15 +37,14 @@ pub struct Setup {
     pub manifold: Manifold,
     pub n: usize,
     pub poses: usize,
-    pub free: u32,
     pub settings: Settings,
 }
 
-// ---- a turn
+// ---- a turn: `Lent` is the word for all that is lent; w32 and w64 go apart, since the top reads the one and writes the other
 
 // What an assembly comes to: a gradient whose norm is below the tolerance has converged.
 fn assembly_of(setup: Setup, made: Result<(), AssemblyError>, w32: &[f32]) -> Assembly
-    requires { Sized setup × (length w32.now ≡ need setup.n) }
+    requires { (setup.n ≤ 384) × (length w32.now ≡ need setup.n) }
     ensures { result ≡ assembly_in setup made w32.now }
 {
     match made {
@@ -73,16 +73,14 @@ fn assembly_of(setup: Setup, made: Result<(), AssemblyError>, w32: &[f32]) -> As
 // The top of a turn: the system of the poses, where it is to be assembled and the limit is not reached; and whether a solve follows.
 fn pass_top(
     setup: Setup,
-    ends: &[u32],
-    edges: &[f32],
-    blocks: &[u32; 256],
+    links: LentLinks<'_>,
     s: State,
     poses: &[f64],
     w32: &mut [f32],
 ) -> Option<Result<Why, Refusal>>
-    requires sized { Sized setup × (length w32.old ≡ need setup.n) }
-    requires at_top { AtTop setup (links_in setup ends.now edges.now blocks.now) s poses.now w32.old }
-    ensures { PassedTop setup (links_in setup ends.now edges.now blocks.now) s poses.now result w32.new }
+    requires sized { Sized setup links.free × (length w32.old ≡ need setup.n) }
+    requires at_top { AtTop setup (links_lent links) s poses.now w32.old }
+    ensures { PassedTop setup (links_lent links.entry) s poses.now result w32.new }
 {
     let fresh = s.fresh;
     if !fresh {
@@ -93,9 +91,7 @@ fn pass_top(
         return Some(Ok(Why::Budget));
     }
     let m = setup.manifold;
-    let made = assembly::build_normal_system_with_mapping(
-        w32, m, poses, ends, edges, blocks, setup.free,
-    );
+    let made = assembly::build_normal_system_with_mapping(w32, m, poses, links);
     let a = assembly_of(setup, made, w32);
     decisions::pass_top(s, set.limit, a)
 }
@@ -103,16 +99,14 @@ fn pass_top(
 // A solve of the system in w32 at the damping, and the trial of its step: the poses of an accepted one become the accepted poses.
 fn attempt(
     setup: Setup,
-    ends: &[u32],
-    edges: &[f32],
-    blocks: &[u32; 256],
+    links: LentLinks<'_>,
     s: State,
     w32: &mut [f32],
     w64: &mut [f64],
 ) -> Outcome
-    requires lent { Lent setup w32.old w64.old }
-    requires holds { Holds setup (links_in setup ends.now edges.now blocks.now) (held_in setup w64.old) w32.old }
-    ensures { Attempted setup (links_in setup ends.now edges.now blocks.now) s w64.old result w32.new w64.new }
+    requires lent { Lent setup links.free w32.old w64.old }
+    requires holds { Holds setup (links_lent links) (held_in setup w64.old) w32.old }
+    ensures { Attempted setup (links_lent links.entry) s w64.old result w32.new w64.new }
 {
     let n = setup.n;
     let Ok(()) = solve::solve_damped(w32, n, s.damping) else {
@@ -120,27 +114,19 @@ fn attempt(
     };
     let at = n * n + n + n;
     let m = setup.manifold;
-    trials::try_step(m, ends, edges, blocks, setup.free, s.cost, &w32[at..], w64)
+    trials::try_step(m, links, s.cost, &w32[at..], w64)
 }
 
-fn one_turn(
-    setup: Setup,
-    ends: &[u32],
-    edges: &[f32],
-    blocks: &[u32; 256],
-    s: State,
-    w32: &mut [f32],
-    w64: &mut [f64],
-) -> Next
-    requires lent { Lent setup w32.old w64.old × (s.accepted < 4294967295) }
-    requires at_top { AtTop setup (links_in setup ends.now edges.now blocks.now) s (held_in setup w64.old) w32.old }
-    ensures { Turned setup (links_in setup ends.now edges.now blocks.now) s w64.old result w32.new w64.new }
+fn one_turn(setup: Setup, links: LentLinks<'_>, s: State, w32: &mut [f32], w64: &mut [f64]) -> Next
+    requires lent { Lent setup links.free w32.old w64.old × (s.accepted < 4294967295) }
+    requires at_top { AtTop setup (links_lent links) s (held_in setup w64.old) w32.old }
+    ensures { Turned setup (links_lent links.entry) s w64.old result w32.new w64.new }
 {
     let half = setup.poses * 12;
-    match pass_top(setup, ends, edges, blocks, s, &w64[..half], w32) {
+    match pass_top(setup, links, s, &w64[..half], w32) {
         Some(e) => Next::Over(s, e),
         None => {
-            let o = attempt(setup, ends, edges, blocks, s, w32, w64);
+            let o = attempt(setup, links, s, w32, w64);
             let set = setup.settings;
             decisions::after_solve(s, set.limit, set.cost_tolerance, o)
         }
@@ -189,23 +175,15 @@ pub fn answer_of(
 // The first cost, then the turns.
 fn started(
     setup: Setup,
-    ends: &[u32],
-    edges: &[f32],
-    blocks: &[u32; 256],
+    links: LentLinks<'_>,
     w32: &mut [f32],
     w64: &mut [f64],
 ) -> Result<Joined, Refusal>
-    requires { Lent setup w32.old w64.old × Startable setup }
-    ensures { Started setup (links_in setup ends.now edges.now blocks.now) w64.old result w64.new }
+    requires { Lent setup links.free w32.old w64.old × Startable setup }
+    ensures { Started setup (links_lent links.entry) w64.old result w64.new }
 {
     let half = setup.poses * 12;
-    let found = costs::active_total_squared_residual_cost(
-        &w64[..half],
-        ends,
-        edges,
-        blocks,
-        setup.free,
-    );
+    let found = costs::active_total_squared_residual_cost(&w64[..half], links);
     match found {
         Err(bad) => Err(Refusal {
             number: 20,
@@ -215,7 +193,7 @@ fn started(
             let set = setup.settings;
             let mut s = decisions::begin(first, set.damping);
             loop {
-                match one_turn(setup, ends, edges, blocks, s, w32, w64) {
+                match one_turn(setup, links, s, w32, w64) {
                     Next::On(t) => {
                         s = t;
                     }
@@ -232,21 +210,19 @@ fn started(
 fn begun(
     setup: Setup,
     poses: &[f64],
-    ends: &[u32],
-    edges: &[f32],
-    blocks: &[u32; 256],
+    links: LentLinks<'_>,
     w32: &mut [f32],
     w64: &mut [f64],
     out: &mut [f64],
 ) -> Result<Joined, Refusal>
-    requires lent { Lent setup w32.old w64.old × Startable setup }
+    requires lent { Lent setup links.free w32.old w64.old × Startable setup }
     requires poses_len { (length poses.now ≡ setup.poses * 12) × (length out.old ≡ length poses.now) }
-    ensures { Begun setup (links_in setup ends.now edges.now blocks.now) poses.now w32.old w64.old out.old result w32.new w64.new
+    ensures { Begun setup (links_lent links.entry) poses.now w32.old w64.old out.old result w32.new w64.new
         out.new }
 {
     let half = setup.poses * 12;
     slices::copy(poses, &mut w64[..half]);
-    let a = started(setup, ends, edges, blocks, w32, w64);
+    let a = started(setup, links, w32, w64);
     if let Ok(_) = a {
         slices::copy(&w64[..half], out);
     }
@@ -288,22 +264,25 @@ pub fn sparse_pose_graph_optimize(
         manifold: retraction::unit_manifold(manifold),
         n,
         poses: c.poses,
-        free: c.free,
         settings,
+    };
+    let links = LentLinks {
+        ends,
+        edges,
+        blocks: &blocks,
+        free: c.free,
     };
     begun(
         setup,
         poses,
-        ends,
-        edges,
-        &blocks,
+        links,
         &mut work32[..n32],
         &mut work64[..n64],
         out,
     )
 }
 
-// The run with six degrees of freedom a pose.
+// The run with six degrees of freedom a pose. (This and the next are public names, each one call of the run on either manifold.)
 pub fn optimize(
     poses: &[f64],
     ends: &[u32],

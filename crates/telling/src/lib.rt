@@ -1,4 +1,5 @@
-// Answers as the numbers that a host program reads: arrays of what a layer, a run, a scan or a job comes to. Nothing is lent here.
+// Answers as the numbers that a host program reads (the C interface): arrays of what a layer, a run, a scan or a job comes to. Nothing is lent here. Where two
+// differ in a length, eight or nine, each is the definition's own list, one line of numbers.
 #![tactic(auto)]
 
 ghost use Rattle.std.specs.Prelude.{◌≡◌};
@@ -34,10 +35,7 @@ pub fn transform_numbers(a: Transform<f32>) -> [f32; 7]
 pub fn place_of(place: usize) -> u32
     ensures { result ≡ place32 place }
 {
-    if place < 0x1_0000_0000 {
-        return place as u32;
-    }
-    4294967295
+    u32::try_from(place).unwrap_or(u32::MAX)
 }
 
 pub fn stop_number(w: Why) -> u32
@@ -55,7 +53,7 @@ pub fn stop_number(w: Why) -> u32
 pub fn flag_of(b: bool) -> u32
     ensures { result ≡ flag b }
 {
-    if b { 1 } else { 0 }
+    u32::from(b)
 }
 
 pub fn joined_eight(j: Joined) -> [u32; 8]
@@ -162,11 +160,12 @@ pub fn read_eight(t: SettingBits, had: Tally) -> [u32; 8]
     ]
 }
 
+// (The two are public, each by its definition's name; they ask only whether it was refused.)
 pub fn read_number(v: Result<(SettingBits, Tally), Refusal>) -> u32
     ensures { result ≡ read_number v }
 {
     match v {
-        Ok((_, _)) => 0,
+        Ok(_) => 0,
         Err(r) => r.number,
     }
 }

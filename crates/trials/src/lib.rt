@@ -4,12 +4,12 @@
 
 ghost use Rattle.std.specs.Prelude.{◌≡◌, ◌≤◌, ◌*◌, length, get_or};
 ghost use Rattle.std.specs.Float.{nan};
-ghost use Rattle.graph.specs.Lent.{slot_in, lent_links};
+ghost use Rattle.graph.specs.Lent.{links_lent};
 ghost use Rattle.trials.specs.Trials.{norm_of, part_of, taken_over, try_answers, try_leaves, trial_in};
 ghost use Rattle.trials.specs.forms.Passes.{Moves, Retracted, Evaluated};
 
 use decisions::{Numerical, Outcome, Reason, Trial};
-use graph::Manifold;
+use graph::{LentLinks, Manifold};
 use rotations::Pose;
 
 const STEP_SIZE_TOLERANCE: f32 = 1e-6;
@@ -47,18 +47,11 @@ struct TrialPose {
 }
 
 // Pose p of the trial: retracted where it is free; as it is where it is not, or cannot be.
-fn moved_pose(
-    m: Manifold,
-    blocks: &[u32; 256],
-    free: u32,
-    step: &[f32],
-    poses: &[f64],
-    p: usize,
-) -> TrialPose
-    ensures { Moves m poses.now (λ i. get_or step.now i nan) p (slot_in blocks.now free p) result }
+fn moved_pose(m: Manifold, links: LentLinks<'_>, step: &[f32], poses: &[f64], p: usize) -> TrialPose
+    ensures { Moves m poses.now (λ i. get_or step.now i nan) p ((links_lent links.entry).slot p) result }
 {
     let pose = graph::pose_at(poses, p);
-    let Some(b) = graph::slot_at(blocks, free, p) else {
+    let Some(b) = links.slot(p) else {
         return TrialPose { pose, well: true };
     };
     let delta = delta_of(step, graph::dof(m), b);
@@ -72,14 +65,14 @@ fn moved_pose(
 }
 
 // The trial's poses, each from the accepted one. Whether all retractions went well.
-fn retract_free(m: Manifold, blocks: &[u32; 256], free: u32, step: &[f32], w: &mut [f64]) -> bool
-    ensures { Retracted m (slot_in blocks.now free) (λ i. get_or step.now i nan) w.old result w.new }
+fn retract_free(m: Manifold, links: LentLinks<'_>, step: &[f32], w: &mut [f64]) -> bool
+    ensures { Retracted m (links_lent links.entry).slot (λ i. get_or step.now i nan) w.old result w.new }
 {
     let n = w.len() / 24;
     let half = n * 12;
     let mut well = true;
     for p in 0..n {
-        let moved = moved_pose(m, blocks, free, step, &w[..half], p);
+        let moved = moved_pose(m, links, step, &w[..half], p);
         let ns = graph::numbers_of(moved.pose);
         let at = half + p * 12;
         w[at..at + 12].copy_from_slice(&ns);
@@ -99,21 +92,18 @@ fn accept(w: &mut [f64])
 // The trial of a step: its poses, then their cost, judged against the cost so far.
 fn evaluate_trial(
     m: Manifold,
-    ends: &[u32],
-    edges: &[f32],
-    blocks: &[u32; 256],
-    free: u32,
+    links: LentLinks<'_>,
     cost: f32,
     step: &[f32],
     w: &mut [f64],
 ) -> Trial
-    ensures { Evaluated m (lent_links ends.now edges.now blocks.now free) cost (λ i. get_or step.now i nan) w.old result w.new }
+    ensures { Evaluated m (links_lent links.entry) cost (λ i. get_or step.now i nan) w.old result w.new }
 {
-    if !retract_free(m, blocks, free, step, w) {
+    if !retract_free(m, links, step, w) {
         return Trial::Rejected(Reason::Numerical(Numerical::Retraction));
     }
     let half = (w.len() / 24) * 12;
-    let found = costs::active_total_squared_residual_cost(&w[half..], ends, edges, blocks, free);
+    let found = costs::active_total_squared_residual_cost(&w[half..], links);
     match found {
         Ok(new) => decisions::judge(cost, new),
         Err(_) => Trial::Rejected(Reason::Numerical(Numerical::Unpriced)),
@@ -123,22 +113,19 @@ fn evaluate_trial(
 // A step that is not too small is tried, and its poses are taken over where the trial was accepted.
 pub fn try_step(
     m: Manifold,
-    ends: &[u32],
-    edges: &[f32],
-    blocks: &[u32; 256],
-    free: u32,
+    links: LentLinks<'_>,
     cost: f32,
     step: &[f32],
     w: &mut [f64],
 ) -> Outcome
-    ensures value { result ≡ try_answers m (lent_links ends.now edges.now blocks.now free) cost step.now w.old }
-    ensures w_value { w.new ≡ try_leaves result w.old (trial_in m (slot_in blocks.now free) (λ i. get_or step.now i nan) w.old) }
+    ensures value { result ≡ try_answers m (links_lent links.entry) cost step.now w.old }
+    ensures w_value { w.new ≡ try_leaves result w.old (trial_in m (links_lent links.entry).slot (λ i. get_or step.now i nan) w.old) }
 {
     let norm = l2_norm(step);
     if norm < f64::from(STEP_SIZE_TOLERANCE) {
         return Outcome::Small;
     }
-    let t = evaluate_trial(m, ends, edges, blocks, free, cost, step, w);
+    let t = evaluate_trial(m, links, cost, step, w);
     if let Trial::Accepted(_) = t {
         accept(w);
     }

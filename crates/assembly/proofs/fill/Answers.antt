@@ -12,7 +12,7 @@ fill_pose-requires c = (c.loop-x-test.true, c.probing_of-probing.ensures, c.loop
 pub loop-x-preserved : goal.loop-x-preserved
 loop-x-preserved c = (
   omega arith,
-  ready_more _ _ _ _ c.loop-x.invariant.1 _ c.slot_at-slot.ensures
+  ready_more _ _ _ _ c.loop-x.invariant.1 _ c.slot-slot.ensures
       c.fill_pose.ensures,
 )
 

@@ -2,13 +2,13 @@ use mathlib.Core.Path.{◌∙◌}
 use Prim.Native.Nat.{◌*◌}
 use lib.ListN.{length}
 use lib.Seq.{length-take-le, take_at}
-use Rattle.graph.specs.Lent.{dof_of, pose_at, lent_links}
+use Rattle.graph.specs.Lent.{dof_of, pose_at, links_lent}
 use Rattle.normal_system.proofs.Building.{built, unbuilt}
 use Rattle.normal_system.proofs.build_over.Goals as goal
 
 pub returns-then-row-ne0 : goal.returns-then-row-ne0
 returns-then-row-ne0 c =
-    unbuilt c.args.m (dof_of c.args.m * c.args.free) (lent_links c.args.ends.now c.args.edges.now c.args.blocks.now c.args.free)
+    unbuilt c.args.m (dof_of c.args.m * c.args.links.free) (links_lent c.args.links)
     (pose_at c.args.poses.now) c.args.work.now c.args.system.now _ _ c.requires.0 c.requires.1
     c.build_normal_system_with_mapping-made.ensures
     c.built_number-row.ensures c.if-row-ne0.true
@@ -16,7 +16,7 @@ returns-then-row-ne0 c =
 pub returns : goal.returns
 returns c =
     let whole = c.build_normal_system_with_mapping-made.auto.w ∙ length-take-le (length c.args.work.now) c.args.system.now c.requires.1 in
-    built c.args.m (dof_of c.args.m * c.args.free) (lent_links c.args.ends.now c.args.edges.now c.args.blocks.now c.args.free)
+    built c.args.m (dof_of c.args.m * c.args.links.free) (links_lent c.args.links)
     (pose_at c.args.poses.now) c.args.work.now c.args.system.now _ _ c.requires.0 c.requires.1
     c.build_normal_system_with_mapping-made.ensures
     c.built_number-row.ensures c.if-row-ne0.false _

@@ -1,8 +1,8 @@
 -- `roots::sqrt32` meets its contract: each return is a law of `proofs/Cases.antt`, with what `sqrt32_bits` ensures. Assumes nothing.
 use Rattle.std.proofs.Common.{T, sym, ◌∙◌, subst, arith}
 use lib.Ieee.{binary32, fits, to_bits, of_bits, div}
-use Rattle.numbers.proofs.Read.{bits_no_nan}
-use Rattle.roots.proofs.Cases.{root_same_nan, no_nan_by, in_range, root_of_bits, no_root, root_same}
+use Rattle.numbers.proofs.Read.{bits_no_nan, no_nan_by}
+use Rattle.roots.proofs.Cases.{root_same_nan, in_range, root_of_bits, no_root, root_same}
 use Rattle.roots.proofs.sqrt32.Goals as goal
 
 pub returns-then-is_nan : goal.returns-then-is_nan

@@ -1,22 +1,19 @@
 -- `rounding::narrow` meets its contract: the sign is put back on what `narrow_bits` makes of the other bits. Assumes nothing.
-use Rattle.std.proofs.Common.{◌≡◌, ℕ, ◌+◌, ◌*◌, ◌/◌, ◌%◌, ◌^◌, ◌<◌, ◌≤◌, Bool, true, false, cond, not, T, leb, sym, refl, ap, ◌∙◌, subst, arith, leb→le}
+use Rattle.std.proofs.Common.{◌≡◌, ℕ, ◌+◌, ◌*◌, ◌/◌, ◌%◌, ◌^◌, ◌<◌, ◌≤◌, Bool, true, false, cond, not, T, leb, sym, ap, ◌∙◌, subst, arith, leb→le}
 use lib.Dec.{nleb→lt}
 use lib.Bits.{and_mask}
-use lib.Ieee.{nan, binary32, binary64, div, fits, of_bits, to_bits, of_fields}
+use lib.Ieee.{binary32, binary64, fits, of_bits, to_bits, of_fields}
 use lib.Ieee.Bits.{to_bits-lt}
 use Rattle.rounding.specs.Rounding.{rounded}
-use Rattle.numbers.proofs.Read.{by_fields, no_nan, is_nan_lem, no_nan_bits, bits_no_nan}
+use Rattle.numbers.proofs.Read.{by_fields, nan_by, no_nan_by, no_nan_bits, bits_no_nan}
 use Rattle.rounding.proofs.narrow.Goals as goal
 
-nan_narrowed : div binary32 (of_bits binary32 0) (of_bits binary32 0) ≡ rounded binary32 nan
-unfolding div of_bits rounded
-nan_narrowed = refl
-
-pub returns-then-x : goal.returns-then-x
-returns-then-x c = nan_narrowed ∙ ap (rounded binary32) (sym (is_nan_lem c.args.x c.if-x.true))
+pub returns-then-is_nan : goal.returns-then-is_nan
+unfolding of_bits rounded
+returns-then-is_nan c = ap (rounded binary32) (sym (nan_by c.args.x c.is_nan.result c.is_nan.ensures.value c.if-is_nan.true))
 
 pub float_to_bits-b : goal.float_to_bits-b
-float_to_bits-b c = no_nan c.args.x c.if-x.false
+float_to_bits-b c = no_nan_by c.args.x c.is_nan.result c.is_nan.ensures.value c.if-is_nan.false
 
 pub overflow_cast-sign : goal.overflow_cast-sign
 overflow_cast-sign c =

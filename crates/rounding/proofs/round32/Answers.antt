@@ -1,23 +1,20 @@
 -- `rounding::round32` meets its contract: from 2^-126 up to where an infinity is nearest by the laws of `proofs/Widening.antt`, elsewhere by `narrow`.
 -- Assumes nothing.
-use Rattle.std.proofs.Common.{◌≡◌, ℕ, ◌+◌, ◌/◌, ◌%◌, ◌^◌, ◌<◌, ◌≤◌, T, leb, sym, refl, ap, ◌∙◌, subst, arith, leb→le}
+use Rattle.std.proofs.Common.{◌≡◌, ℕ, ◌+◌, ◌/◌, ◌%◌, ◌^◌, ◌<◌, ◌≤◌, T, leb, sym, ap, ◌∙◌, subst, arith, leb→le}
 use lib.Bits.{bit_and, and_mask}
-use lib.Ieee.{nan, binary32, binary64, div, fits, of_bits, to_bits}
+use lib.Ieee.{binary32, binary64, fits, of_bits, to_bits}
 use lib.Ieee.Bits.{to_bits-lt}
 use Rattle.rounding.specs.Rounding.{rounded}
-use Rattle.numbers.proofs.Read.{by_fields, no_nan, is_nan_lem, bits_no_nan}
+use Rattle.numbers.proofs.Read.{by_fields, nan_by, no_nan_by, bits_no_nan}
 use Rattle.rounding.proofs.Widening.{Within, in_place, sum_in_place, in_place_finite}
 use Rattle.rounding.proofs.round32.Goals as goal
 
-nan_rounded : div binary64 (of_bits binary64 0) (of_bits binary64 0) ≡ rounded binary32 nan
-unfolding div of_bits rounded
-nan_rounded = refl
-
-pub returns-then-x : goal.returns-then-x
-returns-then-x c = nan_rounded ∙ ap (rounded binary32) (sym (is_nan_lem c.args.x c.if-x.true))
+pub returns-then-is_nan : goal.returns-then-is_nan
+unfolding of_bits rounded
+returns-then-is_nan c = ap (rounded binary32) (sym (nan_by c.args.x c.is_nan.result c.is_nan.ensures.value c.if-is_nan.true))
 
 pub float_to_bits-b : goal.float_to_bits-b
-float_to_bits-b c = no_nan c.args.x c.if-x.false
+float_to_bits-b c = no_nan_by c.args.x c.is_nan.result c.is_nan.ensures.value c.if-is_nan.false
 
 -- what is below a bound that is low enough did not wrap, and rounds to no infinity
 passed : (b less bound : ℕ) → (less + 0x3810_0000_0000_0000) % 2 ^ 64 ≡ bit_and b 0x7fff_ffff_ffff_ffff → less < bound

@@ -1,7 +1,7 @@
 use mathlib.Core.Path.{◌∙◌}
 use native.Mathlib.Nat.{le_refl}
 use Rattle.trials.proofs.Steps.{slot_below}
-use Rattle.sparse_pgo.proofs.Sizes.{gradient_fits, rows_fit, step_bytes, step_fits, step_within}
+use Rattle.sparse_pgo.proofs.Sizes.{n_most, gradient_fits, rows_fit, step_bytes, step_fits, step_within}
 use Rattle.sparse_pgo.proofs.Attempts.{attempt_failed, attempt_tried}
 use Rattle.sparse_pgo.proofs.attempt.Goals as goal
 
@@ -11,16 +11,16 @@ returns-in_default c =
     attempt_failed _ p.lent p.holds c.solve_damped.ensures (c.in_default.not-Ok tt) (c.solve_damped.auto.w ∙ p.lent.single)
 
 pub overflow_mul-at : goal.overflow_mul-at
-overflow_mul-at c = rows_fit c.requires.lent.sized
+overflow_mul-at c = rows_fit (n_most c.requires.lent.sized)
 
 pub overflow_add-at : goal.overflow_add-at
-overflow_add-at c = gradient_fits c.requires.lent.sized
+overflow_add-at c = gradient_fits (n_most c.requires.lent.sized)
 
 pub overflow_add-at-2 : goal.overflow_add-at-2
-overflow_add-at-2 c = step_fits c.requires.lent.sized
+overflow_add-at-2 c = step_fits (n_most c.requires.lent.sized)
 
 pub offset_bounds-w32-at : goal.offset_bounds-w32-at
-offset_bounds-w32-at c = step_bytes c.requires.lent.sized
+offset_bounds-w32-at c = step_bytes (n_most c.requires.lent.sized)
 
 pub slice_bounds-try_step-count : goal.slice_bounds-try_step-count
 slice_bounds-try_step-count c = step_within _ _ (c.solve_damped.auto.w ∙ c.requires.lent.single)

@@ -3,7 +3,7 @@ use mathlib.Core.List.{◌++◌}
 use Prim.Native.Nat.{◌*◌}
 use lib.ListN.{drop}
 use lib.Seq.{length-take-le}
-use Rattle.sparse_pgo.specs.forms.Turns.{links_in}
+use Rattle.graph.specs.Lent.{links_lent}
 use Rattle.sparse_pgo.proofs.Sizes.{half_fits, half_within}
 use Rattle.sparse_pgo.proofs.Running.{CopiedIn, copied_in, in_lent, begun_joined, begun_refused}
 use Rattle.sparse_pgo.proofs.begun.Goals as goal
@@ -42,7 +42,7 @@ returns c =
     let h = copied in
     let p = c.requires in
     let a = c.args in
-    let l = links_in a.setup a.ends.now a.edges.now a.blocks.now in
+    let l = links_lent a.links in
     let k = p.poses_len.1 ∙ p.poses_len.0 ∙ sym (length-take-le _ _ (half_within _ _ (c.started-a.auto.w64 ∙ (copied).long ∙ c.requires.lent.0.double))) in
     elim c.match-a.branch [
       | in-Ok w ↦ begun_joined h {l = l} c.started-a.ensures c.started-a.auto.w64 _ c.started-a.new.w32 _ _ _ l32 z32 z64 _ _ w.in-Ok.is k (w.out-is ∙ w.copy-in-Ok.ensures)

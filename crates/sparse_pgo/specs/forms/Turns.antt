@@ -13,7 +13,7 @@ use Rattle.numbers.specs.Notation.{num, if_then}
 use Rattle.numbers.specs.Walks.{done}
 use Rattle.numbers.specs.Refusals.{refusal}
 use Rattle.graph.specs.Graph.{Links}
-use Rattle.graph.specs.Lent.{dof_of, lent_links}
+use Rattle.graph.specs.Lent.{dof_of}
 use Rattle.graph.specs.declared.Edge.{Edge}
 use Rattle.profile.specs.Layout.{need}
 use Rattle.solve.specs.Work.{gradient_of, work_after}
@@ -34,10 +34,7 @@ use Rattle.sparse_pgo.specs.Parts.{Parts, numerics, whole}
 use Rattle.sparse_pgo.specs.Numerics.{parts_on}
 use Rattle.sparse_pgo.specs.Optimize.{given}
 
--- the edges of a setup, and its parts
-abbrev pub links_in : Setup → List ℕ → List Float → List ℕ → Links Edge
-links_in setup ends edges blocks = lent_links ends edges blocks setup.free
-
+-- the parts of a setup
 abbrev pub parts_in : Setup → Links Edge → Parts (List Float) (List Float) (ℕ → Float)
 parts_in setup l = parts_on setup.manifold setup.n setup.poses setup.settings l
 
@@ -45,14 +42,14 @@ parts_in setup l = parts_on setup.manifold setup.n setup.poses setup.settings l
 abbrev pub held_in : Setup → List Float → List Float
 held_in setup w64 = take (setup.poses * 12) w64
 
--- the sizes of a setup, and lent parts as long as needed and no longer
-pub record Sized (setup : Setup) : Type 0 where
-  pub unknowns : setup.n ≡ dof_of setup.manifold * setup.free
-  pub few : setup.free ≤ 64
+-- the sizes of a setup with so many free poses, and lent parts as long as needed and no longer
+pub record Sized (setup : Setup) (free : ℕ) : Type 0 where
+  pub unknowns : setup.n ≡ dof_of setup.manifold * free
+  pub few : free ≤ 64
   pub poses : setup.poses ≤ 256
 
-pub record Lent (setup : Setup) (w32 w64 : List Float) : Type 0 where
-  pub sized : Sized setup
+pub record Lent (setup : Setup) (free : ℕ) (w32 w64 : List Float) : Type 0 where
+  pub sized : Sized setup free
   pub single : length w32 ≡ need setup.n
   pub double : length w64 ≡ setup.poses * 24
 

@@ -1,13 +1,18 @@
-use mathlib.Core.Path.{refl}
-use borrow.Author.Tests.{lt-ltb, le-ltb}
+use Rattle.std.proofs.Common.{◌≡◌, ℕ, ◌<◌, Bool, true, false, Result, Ok, Err, OkIff, ltb, refl, ◌∙◌}
+use Rattle.std.specs.Result.{result_unwrap_or}
+use borrow.Author.Tests.{lt-ltb, ltb-true}
 use Rattle.numbers.proofs.Choices.{taken, left}
 use Rattle.telling.specs.Telling.{place32}
 use Rattle.telling.proofs.place_of.Goals as goal
 
-pub returns-then-place-lt4294967296 : goal.returns-then-place-lt4294967296
+fits32 : {E : Type 0} (n : ℕ) (r : Result ℕ E) → OkIff r (n < 4294967296) n → result_unwrap_or r 4294967295 ≡ place32 n
 unfolding place32
-returns-then-place-lt4294967296 c = taken _ (lt-ltb _ _ c.if-place-lt4294967296.true) refl
+fits32 n (Ok x) h = taken _ (lt-ltb n 4294967296 h.0) h.1
+fits32 n (Err e) h = go (ltb n 4294967296) refl
+  where
+    go : (b : Bool) → ltb n 4294967296 ≡ b → 4294967295 ≡ place32 n
+    go true q = absurd (h (ltb-true n 4294967296 q))
+    go false q = left _ q refl
 
 pub returns : goal.returns
-unfolding place32
-returns c = left _ (le-ltb _ _ c.if-place-lt4294967296.false) refl
+returns c = c.unwrap_or.ensures ∙ fits32 _ _ c.try_from.ensures
