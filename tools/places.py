@@ -14,7 +14,7 @@ def sources(commit):
     else:
         names = subprocess.run(["git", "ls-files", "-co", "--exclude-standard", "crates"], capture_output=True, text=True, check=True).stdout.split()
         read = lambda p: open(p).read()
-    return {p: read(p) for p in sorted(names) if re.fullmatch(r"crates/\w+/src/.*\.rt", p)}
+    return {p: read(p) for p in sorted(names) if p.split("/")[2:3] == ["src"] and p.endswith(".rt")}
 
 
 def code(text):

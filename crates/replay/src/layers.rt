@@ -1,6 +1,4 @@
 // The layers below a run again: numbers, rotations, retraction and residual, one item at a time.
-ghost use Rattle.std.specs.Prelude.{◌<◌, ◌≤◌};
-
 use crate::bytes::Recorded;
 use crate::{bytes, inputs};
 use exp_log::Twist;
@@ -32,27 +30,19 @@ fn delta_at(b: &[u8], at: usize, n: usize) -> [f32; 6] {
 
 // ---- comparing: a status of 0, then the numbers, from a fixed place of a record on
 
-fn answers<T: Recorded>(xs: &[T], b: &[u8], at: usize) -> bool
-    requires { at < 4096 }
-{
-    u32::read(b, at, 0) == 0 && bytes::same(xs, b, at + 4)
+fn answers<T: Recorded>(xs: &[T], b: &[u8], at: usize) -> bool {
+    u32::read(b, at, 0) == 0 && bytes::same(xs, b, at.saturating_add(4))
 }
 
-fn same_transform(a: Transform<f32>, b: &[u8], at: usize) -> bool
-    requires { at < 4096 }
-{
+fn same_transform(a: Transform<f32>, b: &[u8], at: usize) -> bool {
     answers(&[a.q.x, a.q.y, a.q.z, a.q.w, a.t.x, a.t.y, a.t.z], b, at)
 }
 
-fn same_twist(d: Twist<f32>, b: &[u8], at: usize) -> bool
-    requires { at < 4096 }
-{
+fn same_twist(d: Twist<f32>, b: &[u8], at: usize) -> bool {
     answers(&residual::six_of(d), b, at)
 }
 
-fn same_pose(p: Pose, b: &[u8], at: usize) -> bool
-    requires { at < 4096 }
-{
+fn same_pose(p: Pose, b: &[u8], at: usize) -> bool {
     answers(&graph::numbers_of(p), b, at)
 }
 
@@ -60,9 +50,7 @@ fn fails(b: &[u8], at: usize) -> bool {
     u32::read(b, at, 0) == 1
 }
 
-fn same_restored(r: Result<Pose, Failure>, b: &[u8], at: usize) -> bool
-    requires { at < 4096 }
-{
+fn same_restored(r: Result<Pose, Failure>, b: &[u8], at: usize) -> bool {
     match r {
         Ok(p) => same_pose(p, b, at),
         Err(_) => fails(b, at),
