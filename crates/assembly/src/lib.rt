@@ -3,12 +3,12 @@
 #![tactic(auto)]
 
 ghost use Rattle.std.specs.Prelude.{◌≡◌, ◌+◌, ◌*◌, ◌/◌, ◌^◌, ◌<◌, ◌≤◌, length};
-ghost use Rattle.numbers.specs.Walks.{each};
+ghost use Rattle.numbers.specs.Walks.{each, made};
 ghost use Rattle.profile.specs.Layout.{need};
 ghost use Rattle.additions.specs.Additions.{lower_triangle};
 ghost use Rattle.graph.specs.Lent.{dof_of, pose_at, edge_at, links_lent};
 ghost use Rattle.jacobians.specs.FromProbes.{SharesTurn};
-ghost use Rattle.jacobians.specs.Cells.{stowed_probes};
+ghost use Rattle.jacobians.specs.Cells.{stowed_probes, jacobian_at};
 ghost use Rattle.assembly.specs.Assembly.{edge_step, assembled_from, assembled_of};
 ghost use Rattle.assembly.specs.FromParts.{one_in, both_in};
 ghost use Rattle.assembly.specs.Known.{Axis, Probed, Posed, Ready, Shaped};
@@ -21,7 +21,7 @@ ghost use Rattle.probes.specs.Stances.{probing_of, probe_by};
 use graph::{LentLinks, Manifold};
 use numbers::Failure;
 use probes::{Probing, Stance};
-use residual::{EdgeEndpoint, Linked};
+use residual::{EdgeEndpoint, Link, Linked};
 
 // Why a system can't be had: the first bad edge among all edges, and what is wrong with it; or the work is too short.
 #[derive(Clone, Copy)]
@@ -108,6 +108,19 @@ fn link(
     costs::linked_at(known, costs::known_poses(poses), poses, edges, a, b, k)
 }
 
+// The Jacobian of an end, or why it can't be had.
+fn jacobian(
+    known: &[f32],
+    x: usize,
+    m: Manifold,
+    l: Link,
+    end: EdgeEndpoint,
+) -> Result<[[f32; 6]; 6], Failure>
+    ensures { result ≡ made (jacobian_at known.now x (dof_of m) l end) }
+{
+    jacobians::edge_endpoint_jacobian(known, x, m, l, end).map_err(|bad| bad.why)
+}
+
 // An edge whose one free end is pose x.
 fn add_one(
     w: &mut [f32],
@@ -125,7 +138,7 @@ fn add_one(
 {
     let edge = linked?;
     let r = residual::six_of(edge.six);
-    let j = jacobians::edge_endpoint_jacobian(known, x, m, edge.link, end)?;
+    let j = jacobian(known, x, m, edge.link, end)?;
     additions::add_end(w, n, graph::dof(m), block, &j, &r)
 }
 
@@ -147,8 +160,8 @@ fn add_both(
 {
     let edge = linked?;
     let r = residual::six_of(edge.six);
-    let ja = jacobians::edge_endpoint_jacobian(known, a, m, edge.link, EdgeEndpoint::A)?;
-    let jb = jacobians::edge_endpoint_jacobian(known, b, m, edge.link, EdgeEndpoint::B)?;
+    let ja = jacobian(known, a, m, edge.link, EdgeEndpoint::A)?;
+    let jb = jacobian(known, b, m, edge.link, EdgeEndpoint::B)?;
     additions::add_ends(w, n, graph::dof(m), i, k, &ja, &jb, &r)
 }
 

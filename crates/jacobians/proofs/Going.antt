@@ -10,7 +10,7 @@ use lib.Dec.{ltb, leb}
 use lib.ListN.{length}
 use lib.Ieee.{Float}
 use Rattle.numbers.specs.Notation.{if_then}
-use Rattle.numbers.specs.Walks.{Ended, done, each, made}
+use Rattle.numbers.specs.Walks.{Ended, done, each, Went}
 use Rattle.numbers.proofs.Walking.{each_more, each_all, each_early}
 use Rattle.numbers.specs.declared.Failure.{Failure}
 use Rattle.numbers.specs.declared.Failure.TheVariants.{Numerical}
@@ -39,15 +39,13 @@ module _ (dof : ℕ) (l : Link) (end : EdgeEndpoint) (shift : Hinge) (cell : ℕ
     column_more h f q = each_more _ _ _ i (rw (← h, f) (ap (λ (l : List (List Float)). (Ok tt, l)) (sym q)))
 
     pub jacobian_stopped : {x : Result Twist Failure} {why : Failure} → x ≡ column_shared l end shift k (cell k true) (cell k false) → x ≡ Err why → k < n
-        → Err why ≡ made (jacobian_by dof l end shift cell)
+        → (Err why, j) ≡ jacobian_by dof l end shift cell
     unfolding jacobian_by column_step_shared with_six
-    jacobian_stopped {why = why} h f b =
-        let s : (Err why, j) ≡ jacobian_by dof l end shift cell = each_early _ _ _ _ i (rw (← h, f)) (rw (← d) b) in
-        ap made s
+    jacobian_stopped h f b = each_early _ _ _ _ i (rw (← h, f)) (rw (← d) b)
 
-    pub jacobian_whole : k ≡ n → Ok j ≡ made (jacobian_by dof l end shift cell)
+    pub jacobian_whole : k ≡ n → (Ok tt, j) ≡ jacobian_by dof l end shift cell
     unfolding jacobian_by
-    jacobian_whole b = ap made (each_all _ _ _ _ i (b ∙ d))
+    jacobian_whole b = each_all _ _ _ _ i (b ∙ d)
 
 -- ---- the first probe, and what follows where it could be had
 module _ (known : List Float) (x : ℕ) where
@@ -75,12 +73,12 @@ module _ (known : List Float) (x : ℕ) where
 
   module _ (dof : ℕ) (l : Link) (end : EdgeEndpoint) where
     pub first_lost : {first : Result Transform Failure} {why : Failure} → first ≡ first_probe known x → first ≡ Err why
-        → Err why ≡ made (jacobian_at known x dof l end)
+        → (Err why, zeros) ≡ jacobian_at known x dof l end
     unfolding jacobian_at converting
     first_lost h e = rw (← h, e)
 
-    pub first_had : {first : Result Transform Failure} {t : Transform} {f : Rigid} {shift : Hinge} {r : Result (List (List Float)) Failure} → first ≡ first_probe known x
-        → first ≡ Ok t → f ≡ wide t → shift ≡ hinge_of l end f.q → r ≡ made (jacobian_by dof l end shift (cells_of known x))
-        → r ≡ made (jacobian_at known x dof l end)
+    pub first_had : {first : Result Transform Failure} {t : Transform} {f : Rigid} {shift : Hinge} {r : Went × List (List Float)} → first ≡ first_probe known x
+        → first ≡ Ok t → f ≡ wide t → shift ≡ hinge_of l end f.q → r ≡ jacobian_by dof l end shift (cells_of known x)
+        → r ≡ jacobian_at known x dof l end
     unfolding jacobian_at converting
     first_had h e g k q = rw (← h, e, ← g, ← k) q

@@ -18,6 +18,7 @@ use Rattle.exp_log.specs.declared.Both.{Both}
 use Rattle.residual.specs.declared.EdgeEndpoint.{EdgeEndpoint}
 use Rattle.residual.specs.declared.Hinge.{Hinge}
 use Rattle.residual.specs.declared.Link.{Link}
+use Rattle.jacobians.specs.declared.BadJacobian.{BadJacobian}
 use Rattle.jacobians.specs.Jacobians.{with_six, derivative, put_six, zeros}
 
 -- the cell of pose x's probe along axis c, and what it holds
@@ -71,3 +72,8 @@ first_probe l x = if_then (leb 26624 (length l) && ltb x 256) (stowed_probes l x
 
 unfoldable pub jacobian_at : List Float → ℕ → ℕ → Link → EdgeEndpoint → Went × List (List Float)
 jacobian_at known x dof l end = jacobian_shared dof l end (first_probe known x) (cells_of known x)
+
+-- an answer of the code: the whole Jacobian, or why it can't be had and the columns till then
+abbrev pub told : Result (List (List Float)) BadJacobian → Went × List (List Float)
+told (Ok j) = (Ok tt, j)
+told (Err bad) = (Err bad.why, bad.columns)

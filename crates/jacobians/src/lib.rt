@@ -2,17 +2,23 @@
 #![tactic(auto)]
 
 ghost use Rattle.std.specs.Prelude.{◌≡◌, true, false, ◌+◌, ◌*◌, ◌<◌, ◌≤◌, length};
-ghost use Rattle.numbers.specs.Walks.{made};
 ghost use Rattle.graph.specs.Lent.{dof_of, edge_at};
 ghost use Rattle.costs.specs.Stowed.{stowed_from};
 ghost use Rattle.jacobians.specs.Jacobians.{slope, slope_vec, derivative, put_six};
-ghost use Rattle.jacobians.specs.Cells.{spot, hinges_along, column_by, column_shared, jacobian_by, cells_of, first_probe, jacobian_at};
+ghost use Rattle.jacobians.specs.Cells.{spot, hinges_along, column_by, column_shared, jacobian_by, cells_of, first_probe, jacobian_at, told};
 
 use exp_log::{Both, Twist};
 use graph::{Edge, Manifold};
 use numbers::Failure;
 use residual::{EdgeEndpoint, Hinge, Link};
 use rotations::{Quat, Transform, Vec3};
+
+// A Jacobian that can't be had: why, and the columns till then.
+#[derive(Clone, Copy)]
+pub struct BadJacobian {
+    pub why: Failure,
+    pub columns: [[f32; 6]; 6],
+}
 
 // What the quaternions p and q of an end's probes along axis c give; all shifts have one, which gives `shift`.
 fn hinges_along(
@@ -146,15 +152,17 @@ fn columns(
     l: Link,
     end: EdgeEndpoint,
     shift: Hinge,
-) -> Result<[[f32; 6]; 6], Failure>
+) -> Result<[[f32; 6]; 6], BadJacobian>
     requires { (x < 256) × (26624 ≤ length known.now) }
-    ensures { result ≡ made (jacobian_by (dof_of m) l end shift (cells_of known.now x)) }
+    ensures { told result ≡ jacobian_by (dof_of m) l end shift (cells_of known.now x) }
 {
     let mut j = [[0.0f32; 6]; 6];
     let dof = graph::dof(m);
     for c in 0..dof {
-        let d = column(known, x, l, end, shift, c)?;
-        put_six(&mut j, c, d);
+        match column(known, x, l, end, shift, c) {
+            Ok(d) => put_six(&mut j, c, d),
+            Err(why) => return Err(BadJacobian { why, columns: j }),
+        }
     }
     Ok(j)
 }
@@ -179,10 +187,18 @@ pub fn edge_endpoint_jacobian(
     m: Manifold,
     l: Link,
     end: EdgeEndpoint,
-) -> Result<[[f32; 6]; 6], Failure>
-    ensures { result ≡ made (jacobian_at known.now x (dof_of m) l end) }
+) -> Result<[[f32; 6]; 6], BadJacobian>
+    ensures { told result ≡ jacobian_at known.now x (dof_of m) l end }
 {
-    let first = rotations::widened(first_probe(known, x)?);
+    let first = match first_probe(known, x) {
+        Ok(t) => rotations::widened(t),
+        Err(why) => {
+            return Err(BadJacobian {
+                why,
+                columns: [[0.0f32; 6]; 6],
+            });
+        }
+    };
     let shift = residual::hinge_of(l, end, first.q);
     columns(known, x, m, l, end, shift)
 }

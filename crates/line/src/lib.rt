@@ -26,14 +26,13 @@ pub fn empty() -> Line
     }
 }
 
-fn with_byte(mut l: Line, b: u8) -> Line
-    ensures { result ≡ with_byte l b }
+fn with_byte(l: &mut Line, b: u8)
+    ensures { l.new ≡ with_byte l.old b }
 {
     if l.used < 256 {
         l.bytes[l.used] = b;
         l.used += 1;
     }
-    l
 }
 
 // The text goes behind what the line has; what does not fit is left out.
@@ -42,7 +41,7 @@ pub fn with_text(l: Line, text: &[u8]) -> Line
 {
     let mut r = l;
     for b in text {
-        r = with_byte(r, *b);
+        with_byte(&mut r, *b);
     }
     r
 }

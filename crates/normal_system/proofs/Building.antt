@@ -108,7 +108,7 @@ module _ (m : Manifold) (poses : List Float) (ends : List ℕ) (edges : List Flo
     n_is : dof * c.free ≡ dof_of m * free_count (graph_of i)
     n_is = ap₂ (λ (a b : ℕ). a * b) d free_is
 
-    n_most : dof * c.free ≤ 384
+    pub n_most : dof * c.free ≤ 384
     n_most = rw n_is (mul-le-mul (dof_most m) passed.most_free)
 
     pub need_most : need (dof * c.free) ≤ 148608

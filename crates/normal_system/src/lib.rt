@@ -17,7 +17,8 @@ fn built_number(a: Result<(), AssemblyError>) -> u32
 {
     match a {
         Ok(()) => 0,
-        Err(_) => 21,
+        Err(AssemblyError::BadEdge { .. }) => 21,
+        Err(AssemblyError::Short) => 21,
     }
 }
 

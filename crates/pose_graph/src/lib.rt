@@ -102,8 +102,17 @@ pub fn optimize_pose_graph(
 {
     scans::validate_scan(ids, poses.len(), loops, loop_poses.len(), original.len())?;
     let n = scans::edges_built(ids.len(), loops.len());
-    let ends = scans::built_ends(ids, loops, n);
-    let edges = scans::built_edges(ids.len(), poses, loop_poses, config.loop_edge_weight, n);
+    let mut ends = [0; 2050];
+    scans::build_ends(&mut ends, ids, loops, n);
+    let mut edges = [0.0; 8200];
+    scans::build_edges(
+        &mut edges,
+        ids.len(),
+        poses,
+        loop_poses,
+        config.loop_edge_weight,
+        n,
+    );
     let e = n * 2;
     let g = n * 8;
     run_and_judge(

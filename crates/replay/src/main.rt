@@ -11,6 +11,8 @@ mod runs;
 mod say;
 mod systems;
 
+ghost use Rattle.std.specs.Prelude.{◌≡◌, ◌+◌, ◌≤◌, IfSome, length, slice_range};
+
 use bytes::Recorded;
 use kinds::Kind;
 use say::{BadInput, Tally};
@@ -94,8 +96,10 @@ struct Record<'a> {
     end: usize,
 }
 
-// The record at `at`, where all of it is there.
-fn record_at(file: &[u8], at: usize) -> Option<Record<'_>> {
+// The record at `at`, where all of it is there: what stands behind its kind and its size, up to its end.
+fn record_at(file: &[u8], at: usize) -> Option<Record<'_>>
+    ensures { IfSome result (λ r. (at + 8 ≤ r.end) × (r.end ≤ length file.now) × (r.bytes.now ≡ slice_range file.now (at + 8) r.end)) }
+{
     let kind = u32::read(file, at, 0);
     let size = bytes::count_at(file, at, 1, 16384);
     let from = at.checked_add(8)?;

@@ -1,6 +1,5 @@
 // Counts of cases, and lines for a person.
 use crate::kinds::{KINDS, Kind};
-use std::fmt;
 use std::io::Write;
 
 // How many cases there were, and how many differed.
@@ -55,17 +54,14 @@ pub enum BadInput {
     LeftOver,
 }
 
-impl fmt::Display for BadInput {
-    fn fmt<W: fmt::Write>(&self, f: &mut fmt::Formatter<W>) -> fmt::Result {
-        match self {
-            BadInput::NoList => f.write_str("it does not begin as a list of version 1"),
-            BadInput::CutShort(record) => write!(f, "record {record} is cut short"),
-            BadInput::Unknown(record) => write!(f, "record {record} is of no known form"),
-            BadInput::LeftOver => f.write_str("bytes follow the last record"),
-        }
-    }
-}
-
 pub fn bad_input<W: Write>(out: &mut W, bad: BadInput) {
-    let _ = writeln!(out, "bad input: {bad}");
+    let _ = match bad {
+        BadInput::NoList => writeln!(out, "bad input: it does not begin as a list of version 1"),
+        BadInput::CutShort(record) => writeln!(out, "bad input: record {record} is cut short"),
+        BadInput::Unknown(record) => writeln!(
+            out,
+            "bad input: record {record} is of no known form"
+        ),
+        BadInput::LeftOver => writeln!(out, "bad input: bytes follow the last record"),
+    };
 }

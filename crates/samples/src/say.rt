@@ -1,10 +1,24 @@
-// A run's answer, or a scan's, as one line for a person. A write that fails is let pass.
+// A run's answer, or a scan's, as one line for a person, which goes to the system in one piece. A write that fails is let pass.
 use decisions::Why;
+use line::Line;
 use numbers::Refusal;
 use pose_graph::PgoResult;
 use sparse_pgo::Joined;
-use std::fmt;
-use std::io::{self, Write};
+use std::fmt::{self, Write};
+use std::io;
+
+// A line that is written on.
+#[derive(Clone, Copy)]
+struct Text {
+    line: Line,
+}
+
+impl fmt::Write for Text {
+    fn write_str(&mut self, s: &str) -> fmt::Result {
+        self.line = line::with_text(self.line, s.as_bytes());
+        Ok(())
+    }
+}
 
 // With six digits after the point.
 #[derive(Clone, Copy)]
@@ -38,9 +52,9 @@ fn reason(why: Why) -> &'static str {
     }
 }
 
-fn joined<W: Write>(out: &mut W, j: Joined) -> io::Result<()> {
+fn joined(t: &mut Text, j: Joined) -> fmt::Result {
     write!(
-        out,
+        t,
         "first cost {}, last cost {}, iterations {} (A {}, R {}, F {}), converged {}, stopped by {}",
         Cost(j.first_cost),
         Cost(j.last_cost),
@@ -53,55 +67,63 @@ fn joined<W: Write>(out: &mut W, j: Joined) -> io::Result<()> {
     )
 }
 
-fn refused<W: Write>(out: &mut W, r: Refusal) -> io::Result<()> {
-    write!(out, "refused {} at {}", r.number, r.place)
+fn refused(t: &mut Text, r: Refusal) -> fmt::Result {
+    write!(t, "refused {} at {}", r.number, r.place)
 }
 
 // What was measured before and after, as `line` writes floats: six digits, which no format of the library gives.
-fn change<W: Write>(out: &mut W, text: &str, before: f64, after: f64) -> io::Result<()> {
-    write!(out, "{text}")?;
-    line::say(out, line::with_float(line::empty(), before));
-    write!(out, " to ")?;
-    line::say(out, line::with_float(line::empty(), after));
+fn change(t: &mut Text, text: &str, before: f64, after: f64) -> fmt::Result {
+    write!(t, "{text}")?;
+    t.line = line::with_float(t.line, before);
+    write!(t, " to ")?;
+    t.line = line::with_float(t.line, after);
     Ok(())
 }
 
 // The measured cost is half the sum over all edges.
-fn result<W: Write>(out: &mut W, r: PgoResult) -> io::Result<()> {
+fn result(t: &mut Text, r: PgoResult) -> fmt::Result {
     let m = r.measures;
-    joined(out, r.run)?;
-    change(out, ", measured cost ", m.initial_cost, m.final_cost)?;
+    joined(t, r.run)?;
+    change(t, ", measured cost ", m.initial_cost, m.final_cost)?;
     change(
-        out,
+        t,
         ", last edge ",
         m.new_loop_residual_before,
         m.new_loop_residual_after,
     )?;
-    write!(out, ", usable {}", yes_no(r.usable))
+    write!(t, ", usable {}", yes_no(r.usable))
 }
 
-fn run_line<W: Write>(out: &mut W, sample: &str, a: Result<Joined, Refusal>) -> io::Result<()> {
-    write!(out, "{sample}: ")?;
+fn run_text(t: &mut Text, sample: &str, a: Result<Joined, Refusal>) -> fmt::Result {
+    write!(t, "{sample}: ")?;
     match a {
-        Ok(j) => joined(out, j),
-        Err(r) => refused(out, r),
+        Ok(j) => joined(t, j),
+        Err(r) => refused(t, r),
     }?;
-    writeln!(out)
+    writeln!(t)
 }
 
-fn scan_line<W: Write>(out: &mut W, sample: &str, c: Result<PgoResult, Refusal>) -> io::Result<()> {
-    write!(out, "{sample}: ")?;
+fn scan_text(t: &mut Text, sample: &str, c: Result<PgoResult, Refusal>) -> fmt::Result {
+    write!(t, "{sample}: ")?;
     match c {
-        Ok(r) => result(out, r),
-        Err(r) => refused(out, r),
+        Ok(r) => result(t, r),
+        Err(r) => refused(t, r),
     }?;
-    writeln!(out)
+    writeln!(t)
 }
 
-pub fn answer<W: Write>(out: &mut W, sample: &str, a: Result<Joined, Refusal>) {
-    let _ = run_line(out, sample, a);
+pub fn answer<W: io::Write>(out: &mut W, sample: &str, a: Result<Joined, Refusal>) {
+    let mut t = Text {
+        line: line::empty(),
+    };
+    let _ = run_text(&mut t, sample, a);
+    line::say(out, t.line);
 }
 
-pub fn closed<W: Write>(out: &mut W, sample: &str, c: Result<PgoResult, Refusal>) {
-    let _ = scan_line(out, sample, c);
+pub fn closed<W: io::Write>(out: &mut W, sample: &str, c: Result<PgoResult, Refusal>) {
+    let mut t = Text {
+        line: line::empty(),
+    };
+    let _ = scan_text(&mut t, sample, c);
+    line::say(out, t.line);
 }

@@ -1,12 +1,13 @@
 -- A count by a quotient without a rest: so many numbers are m for each of n exactly where they divide by m into n. Assumes nothing.
-use mathlib.Core.Path.{◌≡◌, refl, sym, ap}
+use mathlib.Core.Path.{◌≡◌, refl, sym, ap, ◌∙◌}
 use mathlib.Core.Bool.{Bool, true, false, not, ◌||◌}
-use Prim.Native.Nat.{ℕ, ◌*◌, ◌/◌, ◌%◌}
+use Prim.Native.Nat.{ℕ, ◌*◌, ◌/◌, ◌%◌, ◌≤◌}
 use native.Mathlib.Omega.{arith}
-use borrow.Author.Tests.{eqb-true, eqb-false, eq-eqb, ne_eqb}
+use borrow.Author.Tests.{eqb-true, eqb-false, eq-eqb, ne_eqb, le-ltb}
 use lib.Dec.{eqb}
 use lib.Ieee.{binary32, of_bits, of_fields, odd, round}
 use Rattle.numbers.specs.Notation.{num, ratio}
+use Rattle.scans.specs.ScanRows.{unfit_scan}
 
 -- two tests against one
 both : (a b : Bool) {t : Bool} → (a ≡ true → b ≡ true → t ≡ true) → (a ≡ false → t ≡ false) → (b ≡ false → t ≡ false) → (not a || not b) ≡ not t
@@ -27,6 +28,12 @@ by_six p n =
     (λ a b. let x : p % 6 ≡ 0 = eqb-true _ _ a in let y : p / 6 ≡ n = eqb-true _ _ b in eq-eqb p (6 * n) (omega arith))
     (λ a. ne_eqb p (6 * n) (λ e. eqb-false (p % 6) 0 a (omega arith)))
     (λ b. ne_eqb p (6 * n) (λ e. eqb-false (p / 6) n b (omega arith)))
+
+-- row 33: poses that are not twelve numbers a keyframe
+pub unfit_poses_lem : (ids poses loops loop_poses original : ℕ) → 2 ≤ ids → (not (eqb (poses % 12) 0) || not (eqb (poses / 12) ids)) ≡ true
+    → true ≡ unfit_scan ids poses loops loop_poses original
+unfolding unfit_scan
+unfit_poses_lem ids poses loops loop_poses original h e = rw (le-ltb ids 2 h, sym (by_twelve poses ids) ∙ e)
 
 -- ---- the numbers' zero
 pub zero32 : of_bits binary32 0 ≡ num 0

@@ -164,6 +164,25 @@ fn put_edge(edges: &mut [f32], k: usize, e: Edge)
     slices::copy(&edge_numbers(e), &mut edges[at..at + 8]);
 }
 
+// The numbers of the first n edges put into `edges`, of so many keyframes, and zeros behind them; no more than are built.
+pub fn build_edges(
+    edges: &mut [f32; 8200],
+    keyframes: usize,
+    poses: &[f64],
+    loop_poses: &[f64],
+    weight: f32,
+    n: usize,
+)
+    ensures { edges.new ≡ strung (λ k. edge_numbers (scan_edge (keyframes - 1) poses.now loop_poses.now weight k)) (min n 1025)
+        ++ replicate (8200 - min n 1025 * 8) (num 0) }
+{
+    let chain = keyframes.saturating_sub(1);
+    *edges = [0.0; 8200];
+    for k in 0..n.min(MOST_BUILT) {
+        put_edge(edges, k, scan_edge(chain, poses, loop_poses, weight, k));
+    }
+}
+
 // The numbers of the first n edges, of so many keyframes; no more than are built.
 pub fn built_edges(
     keyframes: usize,
@@ -175,15 +194,8 @@ pub fn built_edges(
     ensures { result ≡ strung (λ k. edge_numbers (scan_edge (keyframes - 1) poses.now loop_poses.now weight k)) (min n 1025)
         ++ replicate (8200 - min n 1025 * 8) (num 0) }
 {
-    let chain = keyframes.saturating_sub(1);
     let mut edges = [0.0; 8200];
-    for k in 0..n.min(MOST_BUILT) {
-        put_edge(
-            &mut edges,
-            k,
-            scan_edge(chain, poses, loop_poses, weight, k),
-        );
-    }
+    build_edges(&mut edges, keyframes, poses, loop_poses, weight, n);
     edges
 }
 
@@ -207,16 +219,24 @@ fn scan_ends(ids: &[u32], loops: &[u32], k: usize) -> (u32, u32)
     (node_number(candidate), node_number(query))
 }
 
-// The ends of the first n edges; no more than are built.
-pub fn built_ends(ids: &[u32], loops: &[u32], n: usize) -> [u32; 2050]
-    ensures { result ≡ strung (scan_ends ids.now loops.now) (min n 1025) ++ replicate (2050 - min n 1025 * 2) 0 }
+// The ends of the first n edges put into `ends`, and zeros behind them; no more than are built.
+pub fn build_ends(ends: &mut [u32; 2050], ids: &[u32], loops: &[u32], n: usize)
+    ensures { ends.new ≡ strung (scan_ends ids.now loops.now) (min n 1025) ++ replicate (2050 - min n 1025 * 2) 0 }
 {
-    let mut ends = [0; 2050];
+    *ends = [0; 2050];
     for k in 0..n.min(MOST_BUILT) {
         let (a, b) = scan_ends(ids, loops, k);
         ends[k * 2] = a;
         ends[k * 2 + 1] = b;
     }
+}
+
+// The ends of the first n edges; no more than are built.
+pub fn built_ends(ids: &[u32], loops: &[u32], n: usize) -> [u32; 2050]
+    ensures { result ≡ strung (scan_ends ids.now loops.now) (min n 1025) ++ replicate (2050 - min n 1025 * 2) 0 }
+{
+    let mut ends = [0; 2050];
+    build_ends(&mut ends, ids, loops, n);
     ends
 }
 

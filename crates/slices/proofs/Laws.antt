@@ -1,14 +1,47 @@
 -- The laws of copies and clears. Assumes nothing.
-use mathlib.Core.Path.{◌≡◌, sym, ap, ◌∙◌, subst}
-use mathlib.Core.List.{List, ◌++◌, append-nil, append_assoc}
-use Prim.Native.Nat.{ℕ, ◌+◌, ◌-◌, ◌≤◌}
-use native.Mathlib.Nat.{le_of_eq, min-eq_left}
+use mathlib.Core.Path.{◌≡◌, refl, sym, ap, ap₂, ◌∙◌, subst}
+use mathlib.Core.Bool.{Bool, true, false}
+use mathlib.Core.List.{List, [], ◌∷◌, ◌++◌, append-nil, append_assoc}
+use Prim.Native.Nat.{ℕ, suc, ◌+◌, ◌-◌, ◌<◌, ◌≤◌, min}
+use native.Mathlib.Nat.{le_of_eq, min-eq_left, min-eq_right}
 use native.Mathlib.Omega.{arith}
-use lib.ListN.{length, take, drop, replicate, length-take, length-drop, length-replicate, drop_of_length-le}
-use lib.Seq.{length-take-le, take-length, drop-drop}
+use borrow.Author.Tests.{leb-true, leb-false}
+use lib.Dec.{leb}
+use Rattle.std.proofs.lemmas.List.{take-append-drop, take_min, drop-set-lt}
+use lib.ListN.{length, get_or, set, take, drop, replicate, length-take, length-drop, length-replicate, drop_of_length-le}
+use lib.Seq.{length-take-le, take-length, drop-drop, take-suc, take-suc-set}
 use lib.Ieee.{Float}
 use Rattle.numbers.specs.Notation.{num}
 use Rattle.slices.specs.Slices.{copied, zeroed}
+
+-- ---- a copy, element by element: so many are there, and behind them the rest is as found
+
+module _ {A : Type 0} (m l₀ : List A) where
+  abbrev pub CopiedTo : List A → ℕ → Type 0
+  CopiedTo l i = (take i l ≡ take i m) × (drop i l ≡ drop i l₀)
+
+  pub copied_more : (l : List A) (i : ℕ) (x : A) → CopiedTo l i → i < length m → i < length l → x ≡ get_or m i x → CopiedTo (set l i x) (i + 1)
+  copied_more l i x h p q e =
+      let n : i + 1 ≡ suc i = omega arith in
+      let past : drop (i + 1) l ≡ drop (i + 1) l₀ = sym (drop-drop 1 i l) ∙ ap (drop 1) h.1 ∙ drop-drop 1 i l₀ in (
+        rw n (take-suc-set l i x q ∙ ap (λ (z : List A). z ++ (x ∷ [])) h.0 ∙ ap (λ (y : A). take i m ++ (y ∷ [])) e ∙ sym (take-suc m i x p)),
+        drop-set-lt (i + 1) l i x (omega arith) ∙ past,
+      )
+
+  rest_of : {i : ℕ} → i ≡ min (length l₀) (length m) → drop i l₀ ≡ drop (length m) l₀
+  rest_of {i} e = go (leb (length m) (length l₀)) (leb-true (length m) (length l₀)) (leb-false (length m) (length l₀)) refl
+    where
+      go : (t : Bool) → (t ≡ true → length m ≤ length l₀) → (t ≡ false → length l₀ < length m) → t ≡ t → drop i l₀ ≡ drop (length m) l₀
+      go true f g z = let k : i ≡ length m = e ∙ min-eq_right (f refl) in ap (λ (n : ℕ). drop n l₀) k
+      go false f g z =
+          let h = g refl in
+          let k : i ≡ length l₀ = e ∙ min-eq_left (omega arith) in
+          drop_of_length-le l₀ (le_of_eq (sym k)) ∙ sym (drop_of_length-le l₀ (omega arith))
+
+  pub copied_whole_way : {l : List A} {i : ℕ} → CopiedTo l i → i ≡ min (length l₀) (length m) → l ≡ copied m l₀
+  copied_whole_way {l} {i} h e =
+      sym (take-append-drop i l)
+      ∙ ap₂ (λ (x y : List A). x ++ y) (h.0 ∙ ap (λ (n : ℕ). take n m) e ∙ take_min (length l₀) m) (h.1 ∙ rest_of e)
 
 -- between lists of one length a copy is the other list
 pub copied_whole : {A : Type 0} (m l : List A) → length l ≡ length m → copied m l ≡ m
@@ -16,6 +49,10 @@ copied_whole m l e = rw (e, take-length m) (ap (λ x. m ++ x) (drop_of_length-le
 
 pub copied_as : {A : Type 0} (ns l : List A) {m k : List A} → m ≡ ns → length l ≡ length ns → k ≡ copied m l → k ≡ ns
 copied_as {A} ns l e h c = c ∙ ap (λ (z : List A). copied z l) e ∙ copied_whole ns l h
+
+-- over a list that is no longer, a copy is the front of the other
+pub copied_front : {A : Type 0} (m l : List A) → length l ≤ length m → copied m l ≡ take (length l) m
+copied_front {A} m l h = ap (λ (z : List A). take (length l) m ++ z) (drop_of_length-le l h) ∙ append-nil (take (length l) m)
 
 -- the front of a list cleared, its rest as it was
 pub cleared_front : (k : ℕ) (w : List Float) → k ≤ length w → replicate (length (take k w)) (num 0) ++ drop k w ≡ zeroed k w

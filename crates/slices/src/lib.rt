@@ -33,8 +33,9 @@ impl Zero for f64 {
 pub fn copy<T: Copy>(from: &[T], to: &mut [T])
     ensures { to.new ≡ copied from.now to.old }
 {
-    let n = to.len().min(from.len());
-    to[..n].copy_from_slice(&from[..n]);
+    for i in 0..to.len().min(from.len()) {
+        to[i] = from[i];
+    }
 }
 
 // Every number becomes +0.

@@ -57,7 +57,7 @@ module _ (w u v : List Float) (n : ℕ) (F : List ℕ) (d : Float) (o : Option �
 
   -- y and z: with the step cleared where there is none, and then with L's places cleared
   module _ (y z : List Float) (h : z ≡ work_after y n (step_of y n)) where
-    solved : is_some o ≡ true → y ≡ v → Answered w n d (Ok tt) z
+    pub solved : is_some o ≡ true → y ≡ v → Answered w n d (Ok tt) z
     unfolding solved_as
     solved t e =
         answered w n d (Ok tt) z (left _ (le-ltb (length w) (need n) long) (taken _ (sym follows.yes ∙ t) refl))
@@ -65,7 +65,7 @@ module _ (w u v : List Float) (n : ℕ) (F : List ℕ) (d : Float) (o : Option �
         ∙ ap (λ (x : List Float). work_after x n (step_of x n)) e
         ∙ after_ext v w n (step_of v n) (step_in w n d) follows.len follows.at (follows.steps t))
 
-    failed : is_some o ≡ false → y ≡ cleared_at v (n * n + n + n) n → Answered w n d (Err Failed) z
+    pub failed : is_some o ≡ false → y ≡ cleared_at v (n * n + n + n) n → Answered w n d (Err Failed) z
     unfolding solved_as
     failed t e =
         let o = n * n + n + n in

@@ -1,17 +1,18 @@
 -- A part of the work, the m places from p on: cleared and put back, and looked at. Assumes nothing.
 use mathlib.Core.Path.{◌≡◌, sym, ap, ◌∙◌}
 use mathlib.Core.Bool.{Bool, true, false}
-use mathlib.Core.List.{List, ◌++◌, append_assoc}
+use mathlib.Core.List.{List, ◌++◌}
 use Prim.Native.Nat.{ℕ, ◌+◌, ◌-◌, ◌<◌, ◌≤◌}
 use native.Mathlib.Omega.{arith}
 use lib.ListN.{length, get_or, take, drop, replicate, length-drop}
-use lib.Seq.{length-take-le, get_or-take, get_or-drop, drop-drop}
+use lib.Seq.{length-take-le, get_or-take, get_or-drop}
 use lib.Ieee.{Float, nan}
 use Rattle.std.specs.Bool.{MatchBool}
 use Rattle.std.specs.List.{AllWithin, HoldsAt}
 use Rattle.numbers.specs.Notation.{num}
 use Rattle.numbers.specs.Walks.{every}
 use Rattle.numbers.proofs.Walking.{every_all, every_miss}
+use Rattle.slices.proofs.Laws.{cleared_within}
 use Rattle.solve.specs.forms.Profile.{cleared_at}
 use Rattle.solve.proofs.Places.{cleared_whole}
 
@@ -27,12 +28,7 @@ module _ (p m : ℕ) (w : List Float) where
         length-take-le (p + m - p) (drop p w) (rw (length-drop p w) (omega arith)) ∙ e
 
     pub part_cleared : {ys : List Float} → ys ≡ replicate (length part) (num 0) → take p w ++ (ys ++ drop (p + m - p) (drop p w)) ≡ cleared_at w p m
-    part_cleared c =
-        let e : p + (p + m - p) ≡ p + m = omega arith in
-        ap (λ (z : List Float). take p w ++ (z ++ drop (p + m - p) (drop p w))) (c ∙ ap (λ (n : ℕ). replicate n (num 0)) part_long)
-        ∙ ap (λ (z : List Float). take p w ++ (replicate m (num 0) ++ z)) (drop-drop (p + m - p) p w ∙ ap (λ (n : ℕ). drop n w) e)
-        ∙ sym (append_assoc (take p w) (replicate m (num 0)) (drop (p + m) w))
-        ∙ cleared_whole w p m room
+    part_cleared c = cleared_within p m w room c ∙ cleared_whole w p m room
 
     part_at : (k : ℕ) → k < m → get_or w (p + k) nan ≡ get_or part k nan
     part_at k l = sym (get_or-take (p + m - p) (drop p w) k nan (omega arith) ∙ get_or-drop p w k nan)

@@ -86,7 +86,8 @@ fn accept(w: &mut [f64])
     ensures { w.new ≡ taken_over w.old }
 {
     let half = (w.len() / 24) * 12;
-    w.copy_within(half..half + half, 0);
+    let (accepted, trial) = w.split_at_mut(half);
+    slices::copy(&trial[..half], accepted);
 }
 
 // The trial of a step: its poses, then their cost, judged against the cost so far.

@@ -16,13 +16,13 @@ returns-in_err-j c =
     let pre = c.requires in
     rw (handed_on _ c.from_residual-in_err-j.ensures.1)
     (one_no_jacobian a.m a.n (stowed_probes a.known.now a.x) a.linked a.end a.block a.w.now
-    c.in_ok-edge.was (shared_at a.known.now a.x a.m _ a.end pre.2 pre.1 pre.3) c.edge_endpoint_jacobian.ensures c.in_err-j.was)
+    c.in_ok-edge.was (shared_at a.known.now a.x a.m _ a.end pre.2 pre.1 pre.3) c.jacobian.ensures c.in_err-j.was)
 
 pub returns : goal.returns
 returns c =
     let a = c.args in
     let pre = c.requires in
     one_had a.m a.n (stowed_probes a.known.now a.x) a.linked a.end a.block a.w.now
-    c.in_ok-edge.was (shared_at a.known.now a.x a.m _ a.end pre.2 pre.1 pre.3) c.edge_endpoint_jacobian.ensures c.in_ok-j.was
+    c.in_ok-edge.was (shared_at a.known.now a.x a.m _ a.end pre.2 pre.1 pre.3) c.jacobian.ensures c.in_ok-j.was
     c.six_of-r.ensures c.dof.ensures (record { inside = pre.0; there = pre.4 })
     c.add_end.ensures

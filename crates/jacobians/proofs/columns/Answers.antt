@@ -1,5 +1,4 @@
-use mathlib.Core.Path.{◌≡◌, refl, ◌∙◌}
-use Rattle.numbers.proofs.Question.{handed_on}
+use mathlib.Core.Path.{◌≡◌, refl}
 use lib.Ieee.{of_bits}
 use Rattle.jacobians.proofs.Going.{column_more, jacobian_stopped, jacobian_whole}
 use native.Mathlib.Omega.{arith}
@@ -25,15 +24,14 @@ put_six-requires c =
     let d : c.dof-dof.result ≡ dof_of a.m = c.dof-dof.ensures in
     omega (arith, dof_most a.m)
 
-pub returns-in_err-d : goal.returns-in_err-d
-returns-in_err-d c =
-    handed_on _ c.from_residual.ensures.1
-    ∙ jacobian_stopped _ _ _ _ _ c.loop-c.c c.dof-dof.ensures c.loop-c.invariant c.column.ensures c.in_err-d.was c.loop-c-test.true
+pub returns-in-Err : goal.returns-in-Err
+returns-in-Err c =
+    jacobian_stopped _ _ _ _ _ c.loop-c.c c.dof-dof.ensures c.loop-c.invariant c.column.ensures c.in-Err.is c.loop-c-test.true
 
 pub loop-c-preserved : goal.loop-c-preserved
 loop-c-preserved c =
     column_more _ _ _ _ _ c.loop-c.c c.dof-dof.ensures c.loop-c.invariant
-    c.column.ensures c.in_ok-d.was c.put_six.ensures
+    c.column.ensures c.in-Ok.is c.put_six.ensures
 
 pub returns : goal.returns
 returns c = jacobian_whole _ _ _ _ _ c.loop-c.c c.dof-dof.ensures c.loop-c.invariant (omega arith)

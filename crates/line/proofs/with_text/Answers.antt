@@ -8,4 +8,4 @@ loop-b-init c = text_none c.args.l
 pub loop-b-preserved : goal.loop-b-preserved
 loop-b-preserved c =
     let p = c.loop-b in
-    rw c.with_byte-r.ensures (text_more c.args.l p.r c.args.text.now p.b-index (omega arith) p.invariant)
+    rw c.with_byte.ensures (text_more c.args.l p.r c.args.text.now p.b-index (omega arith) p.invariant)

@@ -17,13 +17,13 @@ pub slice_bounds-run_and_judge-end : goal.slice_bounds-run_and_judge-end
 slice_bounds-run_and_judge-end c =
     let a = c.args in
     let s = scan a.ids.now a.poses.now a.loops.now a.loop_poses.now a.config.loop_edge_weight in
-    sym (length-take-le _ _ (ends_front s _ c.edges_built-n.ensures _ c.built_ends-ends.ensures))
+    sym (length-take-le _ _ (ends_front s _ c.edges_built-n.ensures _ c.build_ends.ensures))
 
 pub slice_bounds-run_and_judge-end-2 : goal.slice_bounds-run_and_judge-end-2
 slice_bounds-run_and_judge-end-2 c =
     let a = c.args in
     let s = scan a.ids.now a.poses.now a.loops.now a.loop_poses.now a.config.loop_edge_weight in
-    sym (length-take-le _ _ (edges_front s _ c.edges_built-n.ensures _ c.built_edges-edges.ensures))
+    sym (length-take-le _ _ (edges_front s _ c.edges_built-n.ensures _ c.build_edges.ensures))
 
 pub run_and_judge-requires : goal.run_and_judge-requires
 run_and_judge-requires c =
@@ -36,6 +36,6 @@ returns c =
     let a = c.args in
     let s = scan a.ids.now a.poses.now a.loops.now a.loop_poses.now a.config.loop_edge_weight in
     c.run_and_judge.ensures
-    ∙ at_built _ _ _ s _ _ _ _ _ _ _ c.edges_built-n.ensures c.built_ends-ends.ensures c.built_edges-edges.ensures
+    ∙ at_built _ _ _ s _ _ _ _ _ _ _ c.edges_built-n.ensures c.build_ends.ensures c.build_edges.ensures
     ∙ sym (run_if_fine _ _ _ _ _ _
     (sym c.validate_scan.ensures ∙ c.in_ok-validate_scan.was))

@@ -6,7 +6,7 @@ use lib.ListN.{replicate}
 use Rattle.scans.specs.Scans.{edge_numbers, scan_edge}
 use Rattle.scans.proofs.Fits.{zero32}
 use Rattle.scans.proofs.Strings.{filled_none, filled_more, filled_end}
-use Rattle.scans.proofs.built_edges.Goals as goal
+use Rattle.scans.proofs.build_edges.Goals as goal
 
 pub loop-k-init : goal.loop-k-init
 loop-k-init c = filled_none _ 8 (ap (replicate 8200) zero32)

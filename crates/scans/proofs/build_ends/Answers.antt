@@ -3,7 +3,7 @@ use native.Mathlib.Omega.{arith}
 use mathlib.Core.Path.{◌≡◌, refl, ◌∙◌}
 use Rattle.scans.proofs.Nodes.{ends_wide}
 use Rattle.scans.proofs.Strings.{filled_none, filled_pair, filled_end}
-use Rattle.scans.proofs.built_ends.Goals as goal
+use Rattle.scans.proofs.build_ends.Goals as goal
 
 pub loop-k-init : goal.loop-k-init
 loop-k-init c = filled_none _ 2 refl
