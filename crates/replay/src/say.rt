@@ -1,4 +1,4 @@
-// Counts of cases, and lines for a person.
+// Counts of cases, and lines for a person. A piece of a line that can't be written is let pass, and the next one is tried.
 use crate::kinds::{KINDS, Kind};
 use std::io::Write;
 
@@ -30,7 +30,10 @@ impl Tally {
         let count = &mut self.counts[kind as usize];
         if !same {
             count.differing = count.differing.saturating_add(1);
-            let _ = writeln!(out, "{kind}: case {} differs", count.cases);
+            let _ = write!(out, "{kind}");
+            let _ = write!(out, ": case ");
+            let _ = write!(out, "{}", count.cases);
+            let _ = writeln!(out, " differs");
         }
         count.cases = count.cases.saturating_add(1);
     }
@@ -39,7 +42,12 @@ impl Tally {
         for kind in KINDS {
             let Count { cases, differing } = self.counts[kind as usize];
             if cases != 0 {
-                let _ = writeln!(out, "{kind} {cases}, differing {differing}");
+                let _ = write!(out, "{kind}");
+                let _ = write!(out, " ");
+                let _ = write!(out, "{cases}");
+                let _ = write!(out, ", differing ");
+                let _ = write!(out, "{differing}");
+                let _ = writeln!(out);
             }
         }
     }
@@ -54,14 +62,21 @@ pub enum BadInput {
     LeftOver,
 }
 
+fn bad_record<W: Write>(out: &mut W, record: u32, how: &str) {
+    let _ = write!(out, "bad input: record ");
+    let _ = write!(out, "{record}");
+    let _ = write!(out, "{how}");
+}
+
 pub fn bad_input<W: Write>(out: &mut W, bad: BadInput) {
-    let _ = match bad {
-        BadInput::NoList => writeln!(out, "bad input: it does not begin as a list of version 1"),
-        BadInput::CutShort(record) => writeln!(out, "bad input: record {record} is cut short"),
-        BadInput::Unknown(record) => writeln!(
-            out,
-            "bad input: record {record} is of no known form"
-        ),
-        BadInput::LeftOver => writeln!(out, "bad input: bytes follow the last record"),
-    };
+    match bad {
+        BadInput::NoList => {
+            let _ = writeln!(out, "bad input: it does not begin as a list of version 1");
+        }
+        BadInput::CutShort(record) => bad_record(out, record, " is cut short\n"),
+        BadInput::Unknown(record) => bad_record(out, record, " is of no known form\n"),
+        BadInput::LeftOver => {
+            let _ = writeln!(out, "bad input: bytes follow the last record");
+        }
+    }
 }
