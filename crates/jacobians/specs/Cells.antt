@@ -74,6 +74,6 @@ unfoldable pub jacobian_at : List Float → ℕ → ℕ → Link → EdgeEndpoin
 jacobian_at known x dof l end = jacobian_shared dof l end (first_probe known x) (cells_of known x)
 
 -- an answer of the code: the whole Jacobian, or why it can't be had and the columns till then
-abbrev pub told : Result (List (List Float)) BadJacobian → Went × List (List Float)
-told (Ok j) = (Ok tt, j)
-told (Err bad) = (Err bad.why, bad.columns)
+abbrev pub jacobian_told : Result (List (List Float)) BadJacobian → Went × List (List Float)
+jacobian_told (Ok j) = (Ok tt, j)
+jacobian_told (Err bad) = (Err bad.why, bad.columns)

@@ -5,7 +5,7 @@ ghost use Rattle.std.specs.Prelude.{◌≡◌, true, false, ◌+◌, ◌*◌, �
 ghost use Rattle.graph.specs.Lent.{dof_of, edge_at};
 ghost use Rattle.costs.specs.Stowed.{stowed_from};
 ghost use Rattle.jacobians.specs.Jacobians.{slope, slope_vec, derivative, put_six};
-ghost use Rattle.jacobians.specs.Cells.{spot, hinges_along, column_by, column_shared, jacobian_by, cells_of, first_probe, jacobian_at, told};
+ghost use Rattle.jacobians.specs.Cells.{spot, hinges_along, column_by, column_shared, jacobian_by, cells_of, first_probe, jacobian_at, jacobian_told};
 
 use exp_log::{Both, Twist};
 use graph::{Edge, Manifold};
@@ -154,7 +154,7 @@ fn columns(
     shift: Hinge,
 ) -> Result<[[f32; 6]; 6], BadJacobian>
     requires { (x < 256) × (26624 ≤ length known.now) }
-    ensures { told result ≡ jacobian_by (dof_of m) l end shift (cells_of known.now x) }
+    ensures { jacobian_told result ≡ jacobian_by (dof_of m) l end shift (cells_of known.now x) }
 {
     let mut j = [[0.0f32; 6]; 6];
     let dof = graph::dof(m);
@@ -188,7 +188,7 @@ pub fn edge_endpoint_jacobian(
     l: Link,
     end: EdgeEndpoint,
 ) -> Result<[[f32; 6]; 6], BadJacobian>
-    ensures { told result ≡ jacobian_at known.now x (dof_of m) l end }
+    ensures { jacobian_told result ≡ jacobian_at known.now x (dof_of m) l end }
 {
     let first = match first_probe(known, x) {
         Ok(t) => rotations::widened(t),

@@ -11,7 +11,7 @@ use assembly::AssemblyError;
 use graph::{LentLinks, Manifold};
 use rows::Room;
 
-// The answer of an assembly alone: 0, or the row that refuses it.
+// The answer of an assembly alone: 0, or the row that refuses it. An arm for each error, so that each can be got wrong alone.
 fn built_number(a: Result<(), AssemblyError>) -> u32
     ensures { result ≡ built_number a }
 {

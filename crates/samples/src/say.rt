@@ -9,11 +9,11 @@ use std::io;
 
 // A line that is written on.
 #[derive(Clone, Copy)]
-struct Text {
+struct Draft {
     line: Line,
 }
 
-impl fmt::Write for Text {
+impl fmt::Write for Draft {
     fn write_str(&mut self, s: &str) -> fmt::Result {
         self.line = line::with_text(self.line, s.as_bytes());
         Ok(())
@@ -52,7 +52,7 @@ fn reason(why: Why) -> &'static str {
     }
 }
 
-fn joined(t: &mut Text, j: Joined) -> fmt::Result {
+fn joined(t: &mut Draft, j: Joined) -> fmt::Result {
     write!(
         t,
         "first cost {}, last cost {}, iterations {} (A {}, R {}, F {}), converged {}, stopped by {}",
@@ -67,12 +67,12 @@ fn joined(t: &mut Text, j: Joined) -> fmt::Result {
     )
 }
 
-fn refused(t: &mut Text, r: Refusal) -> fmt::Result {
+fn refused(t: &mut Draft, r: Refusal) -> fmt::Result {
     write!(t, "refused {} at {}", r.number, r.place)
 }
 
 // What was measured before and after, as `line` writes floats: six digits, which no format of the library gives.
-fn change(t: &mut Text, text: &str, before: f64, after: f64) -> fmt::Result {
+fn change(t: &mut Draft, text: &str, before: f64, after: f64) -> fmt::Result {
     write!(t, "{text}")?;
     t.line = line::with_float(t.line, before);
     write!(t, " to ")?;
@@ -81,7 +81,7 @@ fn change(t: &mut Text, text: &str, before: f64, after: f64) -> fmt::Result {
 }
 
 // The measured cost is half the sum over all edges.
-fn result(t: &mut Text, r: PgoResult) -> fmt::Result {
+fn result(t: &mut Draft, r: PgoResult) -> fmt::Result {
     let m = r.measures;
     joined(t, r.run)?;
     change(t, ", measured cost ", m.initial_cost, m.final_cost)?;
@@ -94,7 +94,7 @@ fn result(t: &mut Text, r: PgoResult) -> fmt::Result {
     write!(t, ", usable {}", yes_no(r.usable))
 }
 
-fn run_text(t: &mut Text, sample: &str, a: Result<Joined, Refusal>) -> fmt::Result {
+fn run_text(t: &mut Draft, sample: &str, a: Result<Joined, Refusal>) -> fmt::Result {
     write!(t, "{sample}: ")?;
     match a {
         Ok(j) => joined(t, j),
@@ -103,7 +103,7 @@ fn run_text(t: &mut Text, sample: &str, a: Result<Joined, Refusal>) -> fmt::Resu
     writeln!(t)
 }
 
-fn scan_text(t: &mut Text, sample: &str, c: Result<PgoResult, Refusal>) -> fmt::Result {
+fn scan_text(t: &mut Draft, sample: &str, c: Result<PgoResult, Refusal>) -> fmt::Result {
     write!(t, "{sample}: ")?;
     match c {
         Ok(r) => result(t, r),
@@ -113,7 +113,7 @@ fn scan_text(t: &mut Text, sample: &str, c: Result<PgoResult, Refusal>) -> fmt::
 }
 
 pub fn answer<W: io::Write>(out: &mut W, sample: &str, a: Result<Joined, Refusal>) {
-    let mut t = Text {
+    let mut t = Draft {
         line: line::empty(),
     };
     let _ = run_text(&mut t, sample, a);
@@ -121,7 +121,7 @@ pub fn answer<W: io::Write>(out: &mut W, sample: &str, a: Result<Joined, Refusal
 }
 
 pub fn closed<W: io::Write>(out: &mut W, sample: &str, c: Result<PgoResult, Refusal>) {
-    let mut t = Text {
+    let mut t = Draft {
         line: line::empty(),
     };
     let _ = scan_text(&mut t, sample, c);

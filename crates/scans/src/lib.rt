@@ -164,7 +164,8 @@ fn put_edge(edges: &mut [f32], k: usize, e: Edge)
     slices::copy(&edge_numbers(e), &mut edges[at..at + 8]);
 }
 
-// The numbers of the first n edges put into `edges`, of so many keyframes, and zeros behind them; no more than are built.
+// The numbers of the first n edges put into `edges`, of so many keyframes, and zeros behind them; no more than are built. In place, since an array that a
+// call gives is copied once more where its parts are lent on.
 pub fn build_edges(
     edges: &mut [f32; 8200],
     keyframes: usize,
@@ -183,7 +184,7 @@ pub fn build_edges(
     }
 }
 
-// The numbers of the first n edges, of so many keyframes; no more than are built.
+// The same, given; a public name.
 pub fn built_edges(
     keyframes: usize,
     poses: &[f64],
@@ -231,7 +232,7 @@ pub fn build_ends(ends: &mut [u32; 2050], ids: &[u32], loops: &[u32], n: usize)
     }
 }
 
-// The ends of the first n edges; no more than are built.
+// The same, given; a public name.
 pub fn built_ends(ids: &[u32], loops: &[u32], n: usize) -> [u32; 2050]
     ensures { result ≡ strung (scan_ends ids.now loops.now) (min n 1025) ++ replicate (2050 - min n 1025 * 2) 0 }
 {

@@ -29,11 +29,11 @@ module _ {A : Type 0} (m l₀ : List A) where
       )
 
   rest_of : {i : ℕ} → i ≡ min (length l₀) (length m) → drop i l₀ ≡ drop (length m) l₀
-  rest_of {i} e = go (leb (length m) (length l₀)) (leb-true (length m) (length l₀)) (leb-false (length m) (length l₀)) refl
+  rest_of {i} e = go (leb (length m) (length l₀)) (leb-true (length m) (length l₀)) (leb-false (length m) (length l₀))
     where
-      go : (t : Bool) → (t ≡ true → length m ≤ length l₀) → (t ≡ false → length l₀ < length m) → t ≡ t → drop i l₀ ≡ drop (length m) l₀
-      go true f g z = let k : i ≡ length m = e ∙ min-eq_right (f refl) in ap (λ (n : ℕ). drop n l₀) k
-      go false f g z =
+      go : (t : Bool) → (t ≡ true → length m ≤ length l₀) → (t ≡ false → length l₀ < length m) → drop i l₀ ≡ drop (length m) l₀
+      go true f g = let k : i ≡ length m = e ∙ min-eq_right (f refl) in ap (λ (n : ℕ). drop n l₀) k
+      go false f g =
           let h = g refl in
           let k : i ≡ length l₀ = e ∙ min-eq_left (omega arith) in
           drop_of_length-le l₀ (le_of_eq (sym k)) ∙ sym (drop_of_length-le l₀ (omega arith))

@@ -29,7 +29,7 @@ impl Zero for f64 {
     }
 }
 
-// As many as both have.
+// As many as both have. By the index, since the library's copy between two lent lists calls `memmove`, which a host of the archive need not have.
 pub fn copy<T: Copy>(from: &[T], to: &mut [T])
     ensures { to.new ≡ copied from.now to.old }
 {
